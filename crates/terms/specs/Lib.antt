@@ -1,0 +1,6 @@
+pub mod Ranges
+pub mod Numbers
+pub mod Sides
+pub mod Durations
+pub mod Determinations
+pub mod Refusals
