@@ -1,0 +1,3 @@
+// Words and numbers of a line of text.
+pub mod number;
+pub mod words;
