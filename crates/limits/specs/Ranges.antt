@@ -1,14 +1,13 @@
 -- The tradeable range of a product. Assumes nothing.
 use mathlib.Core.Bool.{Bool, _&&_}
-use Prim.Native.Nat.{ℕ, _+_, _-_, min}
+use Prim.Native.Nat.{ℕ, _+_, _-_}
 use lib.Dec.{leb}
-use Rattle.terms.specs.Ranges.{highest-price}
+use Rattle.terms.specs.Checked.{price-at}
+use Rattle.limits.specs.declared.range.Range.{Range}
 
-abbrev pub lowest-tradeable : ℕ → ℕ → ℕ
-lowest-tradeable reference ticks = reference - ticks
-
-abbrev pub highest-tradeable : ℕ → ℕ → ℕ
-highest-tradeable reference ticks = min (reference + ticks) highest-price
+-- so many ticks either side of the reference price, cut to the prices that exist
+abbrev pub tradeable-range : ℕ → ℕ → Range
+tradeable-range reference ticks = record { low = price-at (reference - ticks); high = price-at (reference + ticks) }
 
 -- both ends included
 abbrev pub tradeable : ℕ → ℕ → ℕ → Bool

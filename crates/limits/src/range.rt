@@ -1,6 +1,6 @@
 // The range in which a product may trade, both ends included.
 ghost use mathlib.Core.Path.{_≡_};
-ghost use Rattle.limits.specs.Ranges.{lowest-tradeable, highest-tradeable, tradeable};
+ghost use Rattle.limits.specs.Ranges.{tradeable-range, tradeable};
 use terms::price::Price;
 
 #[derive(Clone, Copy)]
@@ -12,8 +12,7 @@ pub struct Range {
 impl Range {
     // So many ticks either side of the reference price.
     pub fn around(reference: Price, daily_ticks: u32) -> Range
-        ensures low { λ r. ⌜ r .low .ticks ≡ lowest-tradeable (reference .ticks) «daily_ticks» ⌝ }
-        ensures high { λ r. ⌜ r .high .ticks ≡ highest-tradeable (reference .ticks) «daily_ticks» ⌝ }
+        ensures { λ r. ⌜ r ≡ tradeable-range (reference .ticks) «daily_ticks» ⌝ }
     {
         Range {
             low: reference.lowered(daily_ticks),

@@ -1,6 +1,7 @@
 // The sweep price: the furthest that an arriving order may reach.
 ghost use mathlib.Core.Path.{_≡_};
-ghost use Rattle.limits.specs.Sweeps.{anchor-price, sweep-price, beyond, Held};
+ghost use Rattle.terms.specs.Checks.{answered};
+ghost use Rattle.limits.specs.Sweeps.{anchor-price, sweep-price, beyond, sweep-check};
 use terms::price::Price;
 use terms::refusal::Refusal;
 use terms::side::Side;
@@ -16,7 +17,7 @@ pub fn anchor(best_opposite: Option<Price>, reference: Price) -> Price
 }
 
 pub fn sweep_price(side: Side, anchor: Price, ticks: u32) -> Price
-    ensures { λ r. ⌜ r .ticks ≡ sweep-price side (anchor .ticks) ticks ⌝ }
+    ensures { λ r. ⌜ r ≡ sweep-price side anchor ticks ⌝ }
 {
     match side {
         Side::Buy => anchor.raised(ticks),
@@ -26,7 +27,7 @@ pub fn sweep_price(side: Side, anchor: Price, ticks: u32) -> Price
 
 // Whether an order's price goes further than a limit: above it for a buy, below it for a sell.
 pub fn is_beyond(side: Side, price: Price, limit: Price) -> bool
-    ensures { λ r. ⌜ r ≡ beyond side (price .ticks) (limit .ticks) ⌝ }
+    ensures { λ r. ⌜ r ≡ beyond side price limit ⌝ }
 {
     match side {
         Side::Buy => price.ticks() > limit.ticks(),
@@ -42,7 +43,7 @@ pub fn hold_to_sweep(
     reference: Price,
     ticks: u32,
 ) -> Result<(), Refusal>
-    ensures { λ r. ⌜ Held side (price .ticks) (sweep-price side (anchor-price «best_opposite» reference .ticks) ticks) r ⌝ }
+    ensures { λ r. ⌜ r ≡ answered (sweep-check side price (sweep-price side (anchor-price «best_opposite» reference) ticks)) tt ⌝ }
 {
     let limit = sweep_price(side, anchor(best_opposite, reference), ticks);
     if is_beyond(side, price, limit) {

@@ -3,6 +3,7 @@ ghost use mathlib.Core.Path.{_≡_};
 ghost use Prim.Native.Nat.{_≤_};
 ghost use lib.ListN.{length};
 ghost use Rattle.std.specs.shelf.Lists.{leading};
+ghost use Rattle.std.specs.shelf.Text.{sameBytes};
 ghost use Rattle.reading.specs.Words.{holds, first-word, after-word, uncommented};
 
 #[derive(Clone, Copy)]
@@ -51,4 +52,11 @@ pub fn before_comment(line: &[u8]) -> &[u8]
 {
     let (text, _) = line.split_at(front(Class::Text, line));
     text
+}
+
+// Whether a word is the one given.
+pub fn says(word: &[u8], text: &[u8]) -> bool
+    ensures { λ r. ⌜ r ≡ sameBytes (now (word .entry)) (now (text .entry)) ⌝ }
+{
+    word == text
 }

@@ -4,3 +4,5 @@ pub mod Sides
 pub mod Durations
 pub mod Determinations
 pub mod Refusals
+pub mod Checked
+pub mod Checks

@@ -1,9 +1,8 @@
 // A member of the exchange, by its number from 1 to 999.
-ghost use mathlib.Core.Path.{_≡_};
 ghost use Prim.Native.Nat.{_≤_};
-ghost use Rattle.terms.specs.Ranges.{last-participant, Admits};
-ghost use Rattle.terms.specs.declared.field.Field.the-variants.{Participant as the-participant};
-use crate::field::Field;
+ghost use Rattle.terms.specs.Ranges.{last-participant};
+
+pub mod makes;
 
 #[derive(Clone, Copy, PartialEq, Eq, Debug)]
 pub struct Participant {
@@ -14,19 +13,4 @@ pub struct Participant {
 
 impl Participant {
     pub const LAST: u32 = 999;
-
-    pub fn new(number: u32) -> Result<Participant, Field>
-        ensures { λ r. ⌜ Admits 1 last-participant number (λ p. p .number) the-participant r ⌝ }
-    {
-        if number < 1 || number > Participant::LAST {
-            return Err(Field::Participant);
-        }
-        Ok(Participant { number })
-    }
-
-    pub fn number(self) -> u32
-        ensures { λ r. ⌜ r ≡ self .number ⌝ }
-    {
-        self.number
-    }
 }
