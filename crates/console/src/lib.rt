@@ -3,3 +3,4 @@ pub mod answer;
 pub mod command;
 pub mod desk;
 pub mod parse;
+pub mod show;

@@ -10,6 +10,7 @@ pub mod makes;
 pub mod prices;
 
 // What is above the count is not part of the ladder.
+#[derive(Clone, Copy)]
 pub struct Ladder {
     rungs: [Rung; 32],
     count: usize,

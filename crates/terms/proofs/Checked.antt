@@ -4,9 +4,10 @@ use Prim.Native.Nat.{ℕ, _≤_}
 use native.Mathlib.Bridge.{le-prop}
 use native.Mathlib.Omega.{arith}
 use Rattle.std.proofs.shelf.Tests.{le-leb}
-use Rattle.std.specs.declared.result.Result.the-variants.{Ok}
+use Rattle.std.specs.declared.result.Result.the-variants.{Ok, Err}
 use Rattle.terms.specs.Checked.{price-at, quantity-at, participant-at, price-if, quantity-if, participant-if}
 use Rattle.terms.specs.Ranges.{highest-price, largest-quantity, last-participant}
+use Rattle.terms.specs.declared.field.Field.{Field}
 use Rattle.terms.specs.declared.participant.Participant.{Participant}
 use Rattle.terms.specs.declared.price.Price.{Price}
 use Rattle.terms.specs.declared.quantity.Quantity.{Quantity}
@@ -48,3 +49,10 @@ quantity-made q = rw (le-leb 1 (q .lots) (q .some), le-leb (q .lots) largest-qua
 
 pub participant-made : (p : Participant) → participant-if (p .number) ≡ Ok p
 participant-made p = rw (le-leb 1 (p .number) (p .some), le-leb (p .number) last-participant (p .within)) (ap Ok (participant-is p))
+
+-- a number in range is not refused
+pub price-passes : (n : ℕ) (f : Field) → n ≤ highest-price → Err f ≡ price-if n → ⊥
+price-passes n f h e =
+    let made : price-if n ≡ Ok (price-at n) = rw (le-leb n highest-price h) in
+    let z : _≡_ {A = ℕ} 0 1 = cc in
+    omega arith

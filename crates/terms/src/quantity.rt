@@ -1,4 +1,5 @@
 // An order's quantity, 1 to 1,000,000 lots.
+ghost use mathlib.Core.Path.{_≡_};
 ghost use Prim.Native.Nat.{_≤_};
 ghost use Rattle.terms.specs.Ranges.{largest-quantity};
 
@@ -13,4 +14,10 @@ pub struct Quantity {
 
 impl Quantity {
     pub const LARGEST: u32 = 1_000_000;
+
+    pub fn lots(self) -> u32
+        ensures { λ r. ⌜ r ≡ self .lots ⌝ }
+    {
+        self.lots
+    }
 }

@@ -94,11 +94,11 @@ impl Refusal {
         ensures { λ r. ⌜ r ≡ refusal-detail self ⌝ }
     {
         match self {
-            Refusal::Malformed(fault) => fault.number(),
+            Refusal::Malformed(part) => part.number(),
             Refusal::TimeFell(last) => last,
             Refusal::WrongPhase(phase) => phase.number(),
             Refusal::NotListed(product) => product,
-            Refusal::OutOfRange(field) => field.number(),
+            Refusal::OutOfRange(lowest) => lowest.number(),
             Refusal::Halted(product) => product,
             Refusal::NotResting(order) => order,
             Refusal::BeyondSweep(sweep) => sweep.ticks(),
@@ -107,7 +107,7 @@ impl Refusal {
             Refusal::Exhausted => 0,
             Refusal::NothingHalted => 0,
             Refusal::Crossed(product) => product,
-            Refusal::Missing(fault) => fault.number,
+            Refusal::Missing(trade) => trade.number,
             Refusal::NoSide(trade) => trade,
             Refusal::Marked(mark) => mark.number(),
             Refusal::TooLate(seconds) => seconds,

@@ -1,4 +1,4 @@
-// Making a participant from a plain number, and reading it back.
+// Making a participant from a plain number.
 ghost use mathlib.Core.Path.{_≡_};
 ghost use Rattle.terms.specs.Checked.{participant-if};
 use crate::field::Field;
@@ -12,11 +12,5 @@ impl Participant {
             return Err(Field::Participant);
         }
         Ok(Participant { number })
-    }
-
-    pub fn number(self) -> u32
-        ensures { λ r. ⌜ r ≡ self .number ⌝ }
-    {
-        self.number
     }
 }

@@ -1,4 +1,4 @@
-// Making a price from a plain number, and reading it back.
+// Making a price from a plain number, and moving it by ticks.
 ghost use mathlib.Core.Path.{_≡_};
 ghost use Prim.Native.Nat.{_+_, _-_};
 ghost use Rattle.terms.specs.Checked.{price-at, price-if};
@@ -13,12 +13,6 @@ impl Price {
             return Err(Field::Price);
         }
         Ok(Price { ticks })
-    }
-
-    pub fn ticks(self) -> u32
-        ensures { λ r. ⌜ r ≡ self .ticks ⌝ }
-    {
-        self.ticks
     }
 
     // So many ticks higher, cut to the highest price.

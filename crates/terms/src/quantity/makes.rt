@@ -1,4 +1,4 @@
-// Making a quantity from a plain number, and reading it back.
+// Making a quantity from a plain number.
 ghost use mathlib.Core.Path.{_≡_};
 ghost use Rattle.terms.specs.Checked.{quantity-if};
 use crate::field::Field;
@@ -12,11 +12,5 @@ impl Quantity {
             return Err(Field::Quantity);
         }
         Ok(Quantity { lots })
-    }
-
-    pub fn lots(self) -> u32
-        ensures { λ r. ⌜ r ≡ self .lots ⌝ }
-    {
-        self.lots
     }
 }

@@ -1,10 +1,9 @@
-use mathlib.Core.Logic.{⊎-elim}
-use native.Mathlib.Omega.{arith}
+use Rattle.terms.proofs.Checked.{price-passes}
 use Rattle.pricing.proofs.Climbs.{rung-priced}
 use Rattle.pricing.proofs.ladder.prices.LadderModel.price.Needs as need
 
 pub unreachable-requires : need.unreachable-requires
 unreachable-requires c κs =
     let ladder = c .args .self .now in
-    let priced = rung-priced (ladder .rungs) (ladder .count) (ladder .sound) _ (c .in-Some .rung) (c .in-Some .ensures tt) in
-    ⊎-elim (λ low. omega arith) (λ high. omega arith) (c .in-Err .ensures tt .0)
+    let rung = c .in-Some .rung in
+    price-passes (rung .price) _ (rung-priced (ladder .rungs) (ladder .count) (ladder .sound) _ rung (c .in-Some .ensures tt)) (c .in-Err .ensures tt)
