@@ -1,0 +1,59 @@
+// The tape of trades, as what uses it knows it.
+ghost use mathlib.Core.Path.{_≡_};
+ghost use mathlib.Core.List.{List};
+ghost use Prim.Native.Nat.{ℕ, _+_, _≤_};
+ghost use lib.ListN.{length};
+ghost use Rattle.terms.specs.declared.missing.Missing.{Missing as Lacks};
+ghost use Rattle.terms.specs.declared.refusal.Refusal.{Refusal as Refuses};
+ghost use Rattle.terms.specs.declared.refusal.Refusal.the-variants.{Missing as missing};
+ghost use Rattle.tape.specs.Ranges.{most-records};
+ghost use Rattle.tape.specs.Tapes.{Fair, Rising, Reads, Adds, Marks};
+ghost use Rattle.tape.specs.declared.row.TradeRow.{TradeRow as Row};
+
+pub mod checked;
+pub mod fault;
+pub mod row;
+pub mod trade;
+
+use crate::fault::AddFault;
+use crate::trade::Trade;
+use terms::mark::Mark;
+use terms::refusal::Refusal;
+
+pub trait Tape
+where
+    Refusal: From<Self::Fault>,
+{
+    // the tape's own word for a record that it lacks
+    type Fault: Drop;
+
+    ghost records: { Self → List Row };
+
+    ghost space: { Self → ℕ };
+
+    ghost told: { Self·Fault → Lacks };
+
+    law bounded: { (tape : Self) → length (records tape) + space tape ≤ most-records };
+
+    law fair: { (tape : Self) → Fair (records tape) };
+
+    law rising: { (tape : Self) → Rising (records tape) };
+
+    law tells: { (fault : Self·Fault) (refusal : Refuses) → converts fault refusal → refusal ≡ missing (told fault) };
+
+    fn count(&self) -> u32
+        ensures { λ r. ⌜ r ≡ length (records (now (self .entry))) ⌝ };
+
+    // How many more records it takes.
+    fn room(&self) -> u32
+        ensures { λ r. ⌜ r ≡ space (now (self .entry)) ⌝ };
+
+    fn read(&self, n: u32) -> Result<Trade, Self::Fault>
+        ensures { λ r. ⌜ Reads told (records (now (self .entry))) n r ⌝ };
+
+    fn add(&mut self, trade: Trade) -> Result<(), AddFault>
+        ensures { λ r. ⌜ Adds records space (now (self .entry)) trade (now (self .exit)) r ⌝ };
+
+    fn mark(&mut self, n: u32, mark: Mark) -> Result<(), Self::Fault>
+        ensures { λ r. ⌜ Marks records space told (now (self .entry)) n mark (now (self .exit)) r ⌝ };
+}
