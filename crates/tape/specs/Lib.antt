@@ -2,3 +2,4 @@ pub mod Ranges
 pub mod Rows
 pub mod Trades
 pub mod Tapes
+pub mod Placed

@@ -11,9 +11,10 @@ abbrev pub lies : ℕ → ℕ → ℕ → Bool
 lies low high n = leb low n && leb n high
 
 -- every number is in its range
-abbrev pub fair : TradeRow → Bool
+unfoldable pub fair : TradeRow → Bool
 fair r =
-    leb (r .product) last-product
+    leb (r .mark) last-mark
+    && (leb (r .product) last-product
     && (leb (r .price) highest-price
     && (lies 1 largest-quantity (r .quantity)
     && (leb 1 (r .buy)
@@ -21,5 +22,4 @@ fair r =
     && (lies 1 last-participant (r .buyer)
     && (lies 1 last-participant (r .seller)
     && (leb (r .established) highest-price
-    && (leb (r .«no_bust») widest-no-bust
-    && leb (r .mark) last-mark))))))))
+    && leb (r .«no_bust») widest-no-bust))))))))

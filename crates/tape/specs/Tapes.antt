@@ -10,6 +10,8 @@ use Rattle.std.specs.shelf.Lists.{All}
 use Rattle.terms.specs.Numbers.{mark-number}
 use Rattle.terms.specs.declared.mark.Mark.{Mark}
 use Rattle.terms.specs.declared.missing.Missing.{Missing}
+use Rattle.terms.specs.declared.refusal.Refusal.{Refusal}
+use Rattle.terms.specs.declared.refusal.Refusal.the-variants.{Missing as refused-missing}
 use Rattle.tape.specs.Rows.{lies, fair}
 use Rattle.tape.specs.Trades.{row-of}
 use Rattle.tape.specs.declared.fault.AddFault.{AddFault}
@@ -42,9 +44,8 @@ on-tape rows n = lies 1 (length rows) n
 abbrev pub record-at : List TradeRow → ℕ → TradeRow
 record-at rows n = getD rows (n - 1) blank
 
--- the same record with another mark
-abbrev pub marked : Mark → TradeRow → TradeRow
-marked m r =
+abbrev pub with-mark : ℕ → TradeRow → TradeRow
+with-mark m r =
     record {
       product = r .product;
       time = r .time;
@@ -56,9 +57,13 @@ marked m r =
       seller = r .seller;
       established = r .established;
       «no_bust» = r .«no_bust»;
-      mark = mark-number m;
+      mark = m;
       day = r .day;
     }
+
+-- the same record with another mark
+abbrev pub marked : Mark → TradeRow → TradeRow
+marked m r = with-mark (mark-number m) r
 
 abbrev pub latest-since : ℕ → List TradeRow → ℕ
 latest-since time [] = time
@@ -76,6 +81,10 @@ Fair rows = All (λ r. fair r ≡ true) rows
 abbrev pub Rising : List TradeRow → Type 0
 Rising [] = Unit {0}
 Rising (r ∷ rows) = All (λ later. r .time ≤ later .time) rows × Rising rows
+
+-- what a tape's own fault becomes as a refusal: the number and the count that it tells, and nothing else
+abbrev pub Tells : {F : Type 0} → (F → Refusal → Type 0) → (F → Missing) → Type 0
+Tells {F} converts told = (fault : F) (refusal : Refusal) → converts fault refusal → refusal ≡ refused-missing (told fault)
 
 -- no record has the number n, and the fault tells it with the number of records
 pub record Absent {F : Type 0} (told : F → Missing) (rows : List TradeRow) (n : ℕ) (fault : F) : Type 0 where

@@ -4,10 +4,8 @@ ghost use mathlib.Core.List.{List};
 ghost use Prim.Native.Nat.{ℕ, _+_, _≤_};
 ghost use lib.ListN.{length};
 ghost use Rattle.terms.specs.declared.missing.Missing.{Missing as Lacks};
-ghost use Rattle.terms.specs.declared.refusal.Refusal.{Refusal as Refuses};
-ghost use Rattle.terms.specs.declared.refusal.Refusal.the-variants.{Missing as missing};
 ghost use Rattle.tape.specs.Ranges.{most-records};
-ghost use Rattle.tape.specs.Tapes.{Fair, Rising, Reads, Adds, Marks};
+ghost use Rattle.tape.specs.Tapes.{Fair, Rising, Tells, Reads, Adds, Marks};
 ghost use Rattle.tape.specs.declared.row.TradeRow.{TradeRow as Row};
 
 pub mod checked;
@@ -19,6 +17,9 @@ use crate::fault::AddFault;
 use crate::trade::Trade;
 use terms::mark::Mark;
 use terms::refusal::Refusal;
+
+// The records that a tape may ever hold.
+pub const RECORDS: usize = 65_536;
 
 pub trait Tape
 where
@@ -33,13 +34,11 @@ where
 
     ghost told: { Self·Fault → Lacks };
 
-    law bounded: { (tape : Self) → length (records tape) + space tape ≤ most-records };
+    ghost bounded: { (tape : Self) → length (records tape) + space tape ≤ most-records };
 
-    law fair: { (tape : Self) → Fair (records tape) };
+    ghost fair: { (tape : Self) → Fair (records tape) };
 
-    law rising: { (tape : Self) → Rising (records tape) };
-
-    law tells: { (fault : Self·Fault) (refusal : Refuses) → converts fault refusal → refusal ≡ missing (told fault) };
+    ghost rising: { (tape : Self) → Rising (records tape) };
 
     fn count(&self) -> u32
         ensures { λ r. ⌜ r ≡ length (records (now (self .entry))) ⌝ };
@@ -49,11 +48,13 @@ where
         ensures { λ r. ⌜ r ≡ space (now (self .entry)) ⌝ };
 
     fn read(&self, n: u32) -> Result<Trade, Self::Fault>
-        ensures { λ r. ⌜ Reads told (records (now (self .entry))) n r ⌝ };
+        ensures answer { λ r. ⌜ Reads told (records (now (self .entry))) n r ⌝ }
+        ensures tells { λ _. ⌜ Tells converts told ⌝ };
 
     fn add(&mut self, trade: Trade) -> Result<(), AddFault>
         ensures { λ r. ⌜ Adds records space (now (self .entry)) trade (now (self .exit)) r ⌝ };
 
     fn mark(&mut self, n: u32, mark: Mark) -> Result<(), Self::Fault>
-        ensures { λ r. ⌜ Marks records space told (now (self .entry)) n mark (now (self .exit)) r ⌝ };
+        ensures answer { λ r. ⌜ Marks records space told (now (self .entry)) n mark (now (self .exit)) r ⌝ }
+        ensures tells { λ _. ⌜ Tells converts told ⌝ };
 }
