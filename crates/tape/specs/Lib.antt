@@ -3,3 +3,5 @@ pub mod Rows
 pub mod Trades
 pub mod Tapes
 pub mod Placed
+pub mod Windows
+pub mod Days

@@ -100,6 +100,12 @@ abbrev pub Reads : {F : Type 0} → (F → Missing) → List TradeRow → ℕ �
 Reads told rows n (Ok trade) = Found rows n trade
 Reads told rows n (Err fault) = Absent told rows n fault
 
+-- the same as a refusal
+abbrev pub Trade-at : List TradeRow → ℕ → Result Trade Refusal → Type 0
+Trade-at rows n (Ok trade) = Found rows n trade
+Trade-at rows n (Err refusal) =
+    (on-tape rows n ≡ false) × (refusal ≡ refused-missing (record { number = n; count = length rows }))
+
 module _ {S : Type 0} (records : S → List TradeRow) (space : S → ℕ) where
   -- the tape before has room and its times are not above the trade's, which is the last record of the tape after
   pub record Added (before : S) (trade : Trade) (after : S) : Type 0 where

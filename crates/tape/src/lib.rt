@@ -9,9 +9,13 @@ ghost use Rattle.tape.specs.Tapes.{Fair, Rising, Tells, Reads, Adds, Marks};
 ghost use Rattle.tape.specs.declared.row.TradeRow.{TradeRow as Row};
 
 pub mod checked;
+pub mod day;
 pub mod fault;
+pub mod last;
+pub mod reading;
 pub mod row;
 pub mod trade;
+pub mod window;
 
 use crate::fault::AddFault;
 use crate::trade::Trade;
