@@ -1,0 +1,2 @@
+// A tape over lent bytes, of which the first are in use.
+pub mod codec;
