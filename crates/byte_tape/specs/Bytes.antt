@@ -3,7 +3,6 @@ use mathlib.Core.Path.{_≡_}
 use mathlib.Core.List.{List, [], _∷_}
 use Prim.Native.Nat.{ℕ, _+_, _*_, _/_, _%_, _^_, _<_}
 use lib.ListN.{getD}
-use Rattle.std.specs.Holes.{between}
 use Rattle.std.specs.shelf.Lists.{All, joined}
 use Rattle.tape.specs.declared.row.TradeRow.{TradeRow}
 
@@ -27,22 +26,26 @@ abbrev pub number-at : List ℕ → ℕ → ℕ
 number-at bytes i =
     getD bytes i 0 * 16777216 + getD bytes (i + 1) 0 * 65536 + getD bytes (i + 2) 0 * 256 + getD bytes (i + 3) 0
 
-abbrev pub decoded : List ℕ → TradeRow
-decoded bytes =
+-- the record whose bytes begin at a place
+abbrev pub decoded-at : List ℕ → ℕ → TradeRow
+decoded-at bytes i =
     record {
-      product = number-at bytes 0;
-      time = number-at bytes 4;
-      price = number-at bytes 8;
-      quantity = number-at bytes 12;
-      buy = number-at bytes 16;
-      sell = number-at bytes 20;
-      buyer = number-at bytes 24;
-      seller = number-at bytes 28;
-      established = number-at bytes 32;
-      «no_bust» = number-at bytes 36;
-      mark = number-at bytes 40;
-      day = number-at bytes 44;
+      product = number-at bytes i;
+      time = number-at bytes (i + 4);
+      price = number-at bytes (i + 8);
+      quantity = number-at bytes (i + 12);
+      buy = number-at bytes (i + 16);
+      sell = number-at bytes (i + 20);
+      buyer = number-at bytes (i + 24);
+      seller = number-at bytes (i + 28);
+      established = number-at bytes (i + 32);
+      «no_bust» = number-at bytes (i + 36);
+      mark = number-at bytes (i + 40);
+      day = number-at bytes (i + 44);
     }
+
+abbrev pub decoded : List ℕ → TradeRow
+decoded bytes = decoded-at bytes 0
 
 -- what is written reads back as it was
 abbrev pub Comes-back : Type 0
@@ -50,4 +53,4 @@ Comes-back = (r : TradeRow) → All (λ n. n < 2 ^ 32) (numbers r) → decoded (
 
 -- the record that memory holds at a place, counted from 0
 abbrev pub record-in : List ℕ → ℕ → TradeRow
-record-in bytes k = decoded (between (record-bytes * k) (record-bytes * k + record-bytes) bytes)
+record-in bytes k = decoded-at bytes (record-bytes * k)

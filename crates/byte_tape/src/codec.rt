@@ -3,7 +3,7 @@ ghost use mathlib.Core.Path.{_≡_};
 ghost use Prim.Native.Nat.{_+_, _*_, _^_, _<_, _≤_};
 ghost use lib.ListN.{length};
 ghost use Rattle.std.specs.shelf.Lists.{All};
-ghost use Rattle.byte_tape.specs.Bytes.{record-bytes, numbers as numbers-of, encoded, number-at, decoded, Comes-back};
+ghost use Rattle.byte_tape.specs.Bytes.{record-bytes, numbers as numbers-of, encoded, number-at, decoded-at, decoded, Comes-back};
 use tape::row::TradeRow;
 
 pub const RECORD_BYTES: usize = 48;
@@ -44,32 +44,33 @@ pub fn encode(row: TradeRow) -> [u8; RECORD_BYTES]
 pub fn decode(bytes: &[u8; RECORD_BYTES]) -> TradeRow
     ensures { λ r. ⌜ r ≡ decoded (now (bytes .entry)) ⌝ }
 {
-    decode_slice(bytes)
+    decode_at(bytes, 0)
 }
 
-fn number(bytes: &[u8], at: usize) -> u32
+// The record whose bytes begin at a place.
+pub(crate) fn decode_at(bytes: &[u8], at: usize) -> TradeRow
+    requires { ⌜ at + record-bytes ≤ length (now bytes) ⌝ }
+    ensures { λ r. ⌜ r ≡ decoded-at (now (bytes .entry)) at ⌝ }
+{
+    TradeRow {
+        product: number_at(bytes, at),
+        time: number_at(bytes, at + 4),
+        price: number_at(bytes, at + 8),
+        quantity: number_at(bytes, at + 12),
+        buy: number_at(bytes, at + 16),
+        sell: number_at(bytes, at + 20),
+        buyer: number_at(bytes, at + 24),
+        seller: number_at(bytes, at + 28),
+        established: number_at(bytes, at + 32),
+        no_bust: number_at(bytes, at + 36),
+        mark: number_at(bytes, at + 40),
+        day: number_at(bytes, at + 44),
+    }
+}
+
+fn number_at(bytes: &[u8], at: usize) -> u32
     requires { ⌜ at + 4 ≤ length (now bytes) ⌝ }
     ensures { λ r. ⌜ r ≡ number-at (now (bytes .entry)) at ⌝ }
 {
     u32::from_be_bytes([bytes[at], bytes[at + 1], bytes[at + 2], bytes[at + 3]])
-}
-
-fn decode_slice(bytes: &[u8]) -> TradeRow
-    requires { ⌜ length (now bytes) ≡ record-bytes ⌝ }
-    ensures { λ r. ⌜ r ≡ decoded (now (bytes .entry)) ⌝ }
-{
-    TradeRow {
-        product: number(bytes, 0),
-        time: number(bytes, 4),
-        price: number(bytes, 8),
-        quantity: number(bytes, 12),
-        buy: number(bytes, 16),
-        sell: number(bytes, 20),
-        buyer: number(bytes, 24),
-        seller: number(bytes, 28),
-        established: number(bytes, 32),
-        no_bust: number(bytes, 36),
-        mark: number(bytes, 40),
-        day: number(bytes, 44),
-    }
 }

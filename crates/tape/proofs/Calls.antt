@@ -61,7 +61,17 @@ pub fair-marked : (r : TradeRow) (m : Mark) → fair r ≡ true → fair (marked
 unfolding fair
 fair-marked r m h = and-from (leb (mark-number m) last-mark) _ (mark-low m) (and-parts (leb (r .mark) last-mark) _ h .1)
 
+pub fair-mark : (r : TradeRow) → fair r ≡ true → r .mark ≤ last-mark
+unfolding fair
+fair-mark r h = leb-true (r .mark) last-mark (and-parts (leb (r .mark) last-mark) _ h .0)
+
 module _ (at at′ : ℕ → TradeRow) (used : ℕ) where
+  pub fair-same : Fair-places at used → ((k : ℕ) → k < used → at′ k ≡ at k) → Fair-places at′ used
+  fair-same all below k lt = rw (below k lt) (all k lt)
+
+  pub rising-same : Rising-places at used → ((k : ℕ) → k < used → at′ k ≡ at k) → Rising-places at′ used
+  rising-same all below k lt = let l : k < used = omega arith in rw (below k l, below (suc k) lt) (all k lt)
+
   pub fair-push : Fair-places at used → ((k : ℕ) → k < used → at′ k ≡ at k) → fair (at′ used) ≡ true → Fair-places at′ (used + 1)
   fair-push all below here k lt =
       ⊎-elim
