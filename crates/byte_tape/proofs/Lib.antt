@@ -1,0 +1,2 @@
+mod Fours
+mod Places

@@ -1,0 +1,4 @@
+pub mod Times
+pub mod Memory
+pub mod Calls
+pub mod Back
