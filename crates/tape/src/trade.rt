@@ -2,19 +2,11 @@
 ghost use Prim.Native.Nat.{_≤_};
 ghost use Rattle.tape.specs.Ranges.{last-product, widest-no-bust};
 use terms::mark::Mark;
-use terms::mark::MarkDebug;
-use terms::mark::MarkPartialEq;
 use terms::participant::Participant;
-use terms::participant::ParticipantDebug;
-use terms::participant::ParticipantPartialEq;
 use terms::price::Price;
-use terms::price::PriceDebug;
-use terms::price::PricePartialEq;
 use terms::quantity::Quantity;
-use terms::quantity::QuantityDebug;
-use terms::quantity::QuantityPartialEq;
 
-#[derive(Clone, Copy, PartialEq, Eq, Debug)]
+#[derive(Clone, Copy)]
 pub struct Trade {
     pub product: u32,
     pub time: u32,

@@ -5,7 +5,7 @@ ghost use Rattle.terms.specs.Ranges.{last-participant};
 
 pub mod makes;
 
-#[derive(Clone, Copy, PartialEq, Eq, Debug)]
+#[derive(Clone, Copy)]
 pub struct Participant {
     number: u32,
     ghost some: { 1 ≤ number },

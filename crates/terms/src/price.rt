@@ -5,7 +5,7 @@ ghost use Rattle.terms.specs.Ranges.{highest-price};
 
 pub mod makes;
 
-#[derive(Clone, Copy, PartialEq, Eq, PartialOrd, Ord, Debug)]
+#[derive(Clone, Copy)]
 pub struct Price {
     ticks: u32,
     ghost within: { ticks ≤ highest-price },

@@ -5,7 +5,7 @@ ghost use Rattle.terms.specs.Ranges.{largest-quantity};
 
 pub mod makes;
 
-#[derive(Clone, Copy, PartialEq, Eq, Debug)]
+#[derive(Clone, Copy)]
 pub struct Quantity {
     lots: u32,
     ghost some: { 1 ≤ lots },

@@ -3,25 +3,13 @@ ghost use mathlib.Core.Path.{_≡_};
 ghost use Rattle.terms.specs.Refusals.{refusal-number, refusal-detail};
 ghost use Rattle.terms.specs.declared.refusal.Refusal.the-variants.{Malformed as malformed, OutOfRange as out-of-range, Missing as missing};
 use crate::field::Field;
-use crate::field::FieldDebug;
-use crate::field::FieldPartialEq;
 use crate::malformed::Malformed;
-use crate::malformed::MalformedDebug;
-use crate::malformed::MalformedPartialEq;
 use crate::mark::Mark;
-use crate::mark::MarkDebug;
-use crate::mark::MarkPartialEq;
 use crate::missing::Missing;
-use crate::missing::MissingDebug;
-use crate::missing::MissingPartialEq;
 use crate::phase::Phase;
-use crate::phase::PhaseDebug;
-use crate::phase::PhasePartialEq;
 use crate::price::Price;
-use crate::price::PriceDebug;
-use crate::price::PricePartialEq;
 
-#[derive(Clone, Copy, PartialEq, Eq, Debug)]
+#[derive(Clone, Copy)]
 pub enum Refusal {
     // a listing or a ladder breaks its rules
     Malformed(Malformed),

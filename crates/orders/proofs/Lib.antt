@@ -1,0 +1,4 @@
+pub mod Ranks
+pub mod Heads
+pub mod Gone
+pub mod Cursor
