@@ -2,3 +2,5 @@ pub mod Ranks
 pub mod Heads
 pub mod Gone
 pub mod Cursor
+pub mod Found
+pub mod Leaving

@@ -1,3 +1,6 @@
 pub mod Rows
 pub mod Orders
 pub mod Queue
+pub mod Questions
+pub mod Closes
+pub mod Resting

@@ -1,6 +1,9 @@
 // The order table: resting orders in lent memory, searched by price-time priority.
 pub mod checked;
+pub mod close;
 pub mod order;
+pub mod questions;
+pub mod resting;
 pub mod row;
 pub mod search;
 pub mod side;

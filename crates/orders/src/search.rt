@@ -73,7 +73,7 @@ fn offered<S: BookSide>(
 }
 
 // How many places of a table count.
-fn span(places: usize) -> usize
+pub(crate) fn span(places: usize) -> usize
     ensures { λ r. ⌜ r ≡ min most-places places ⌝ }
 {
     if places < PLACES { places } else { PLACES }
