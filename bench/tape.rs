@@ -6,11 +6,11 @@ const RECORD_BYTES: usize = 48;
 const ROUNDS: usize = 40;
 
 unsafe extern "C" {
-    fn tape_bench_run(bytes: *mut u8, len: usize, records: u32) -> u64;
+    fn tape_bench_run(bytes: *mut u8, len: usize, numbers: *const u32, many: usize) -> u64;
 }
 
-fn proved(bytes: &mut [u8]) -> u64 {
-    unsafe { tape_bench_run(bytes.as_mut_ptr(), bytes.len(), RECORDS as u32) }
+fn proved(bytes: &mut [u8], numbers: &[u32]) -> u64 {
+    unsafe { tape_bench_run(bytes.as_mut_ptr(), bytes.len(), numbers.as_ptr(), numbers.len()) }
 }
 
 #[derive(Clone, Copy)]
@@ -30,23 +30,34 @@ impl Row {
             && no_bust <= 100_000
             && mark <= 3
     }
+}
 
-    fn sample(i: u32) -> Row {
-        Row([
-            i % 32,
-            i,
-            i % 1_000_001,
-            i % 1_000_000 + 1,
-            i % 65_536 + 1,
-            i % 32_768 + 1,
-            i % 999 + 1,
-            i % 998 + 1,
-            i % 1_000_001,
-            i % 100_001,
-            0,
-            i % 7,
-        ])
+// Fair numbers without a pattern that a compiler could know.
+fn samples() -> Vec<u32> {
+    let mut state: u32 = 1;
+    let mut below = |n: u32| {
+        state = state.wrapping_mul(1_664_525).wrapping_add(1_013_904_223);
+        (state >> 8) % n
+    };
+    let mut numbers = Vec::new();
+    for i in 0..RECORDS as u32 {
+        let price = below(1_000_001);
+        numbers.extend([
+            below(32),
+            i / 3,
+            price,
+            below(1_000_000) + 1,
+            below(1 << 24) + 1,
+            below(1 << 24) + 1,
+            below(999) + 1,
+            below(999) + 1,
+            price,
+            below(100_001),
+            below(4),
+            i / 10_000,
+        ]);
     }
+    numbers
 }
 
 struct Tape<'a> {
@@ -90,10 +101,10 @@ impl Tape<'_> {
 }
 
 #[inline(never)]
-fn plain(bytes: &mut [u8], records: u32) -> u64 {
+fn plain(bytes: &mut [u8], numbers: &[u32]) -> u64 {
     let mut tape = Tape { bytes, used: 0 };
-    for i in 0..records {
-        let row = Row::sample(i);
+    for numbers in numbers.chunks_exact(12) {
+        let row = Row(numbers.try_into().unwrap());
         if !row.fair() || !tape.add(row) {
             return 0;
         }
@@ -117,14 +128,15 @@ fn timed(run: impl FnOnce() -> u64) -> (u64, Duration) {
 }
 
 fn main() {
+    let numbers = samples();
     let mut ours = vec![0u8; RECORDS * RECORD_BYTES];
     let mut theirs = vec![0u8; RECORDS * RECORD_BYTES];
     let mut best = [Duration::MAX; 2];
     for _ in 0..ROUNDS {
         ours.fill(0);
         theirs.fill(0);
-        let (a, s) = timed(|| proved(&mut ours));
-        let (b, t) = timed(|| plain(std::hint::black_box(&mut theirs), std::hint::black_box(RECORDS as u32)));
+        let (a, s) = timed(|| proved(&mut ours, &numbers));
+        let (b, t) = timed(|| plain(std::hint::black_box(&mut theirs), std::hint::black_box(&numbers)));
         assert!(a != 0 && a == b, "the answers differ: {a} and {b}");
         assert!(ours == theirs, "the tapes differ");
         best = [best[0].min(s), best[1].min(t)];

@@ -1,33 +1,39 @@
 // What bench/ times: records put on a tape over lent bytes, and read again.
+ghost use Prim.Native.Nat.{_+_, _*_, _≤_};
+ghost use lib.ListN.{length};
 use byte_tape::ByteTape;
 use byte_tape::records::ByteTapeTape;
 use byte_tape::unwritten::RefusalFromUnwritten;
 use tape::Tape;
 use tape::row::TradeRow;
 
-fn sample(i: u32) -> TradeRow {
+// The twelve numbers of one record.
+fn row(numbers: &[u32], i: usize) -> TradeRow
+    requires { ⌜ 12 * i + 12 ≤ length (now numbers) ⌝ }
+{
+    let at = 12 * i;
     TradeRow {
-        product: i % 32,
-        time: i,
-        price: i % 1_000_001,
-        quantity: i % 1_000_000 + 1,
-        buy: i % 65_536 + 1,
-        sell: i % 32_768 + 1,
-        buyer: i % 999 + 1,
-        seller: i % 998 + 1,
-        established: i % 1_000_001,
-        no_bust: i % 100_001,
-        mark: 0,
-        day: i % 7,
+        product: numbers[at],
+        time: numbers[at + 1],
+        price: numbers[at + 2],
+        quantity: numbers[at + 3],
+        buy: numbers[at + 4],
+        sell: numbers[at + 5],
+        buyer: numbers[at + 6],
+        seller: numbers[at + 7],
+        established: numbers[at + 8],
+        no_bust: numbers[at + 9],
+        mark: numbers[at + 10],
+        day: numbers[at + 11],
     }
 }
 
-// A digest of what was read; 0 where the memory does not take as many records.
+// A digest of what was read; 0 where the tape does not take every record.
 #[unsafe(no_mangle)]
-pub extern "C" fn tape_bench_run(bytes: &mut [u8], records: u32) -> u64 {
+pub extern "C" fn tape_bench_run(bytes: &mut [u8], numbers: &[u32]) -> u64 {
     let mut tape = ByteTape::new(bytes);
-    for i in 0..records {
-        let Some(trade) = sample(i).trade() else {
+    for i in 0..numbers.len() / 12 {
+        let Some(trade) = row(numbers, i).trade() else {
             return 0;
         };
         if tape.add(trade).is_err() {
