@@ -3,6 +3,8 @@ use mathlib.Core.Bool.{cond, _&&_}
 use Prim.Native.Nat.{ℕ, _≤_, min, max}
 use native.Mathlib.Omega.{arith}
 use lib.Dec.{leb}
+use Rattle.std.specs.declared.option.Option.{Option}
+use Rattle.std.specs.declared.option.Option.the-variants.{Some, None}
 use Rattle.std.specs.declared.result.Result.{Result}
 use Rattle.std.specs.declared.result.Result.the-variants.{Ok, Err}
 use Rattle.terms.specs.Ranges.{highest-price, largest-quantity, last-participant}
@@ -51,3 +53,8 @@ quantity-if n = cond (leb 1 n && leb n largest-quantity) (Ok (quantity-at n)) (E
 
 abbrev pub participant-if : ℕ → Result Participant Field
 participant-if n = cond (leb 1 n && leb n last-participant) (Ok (participant-at n)) (Err the-participant)
+
+-- how many lots are left of an order
+abbrev pub lots-left : Option Quantity → ℕ
+lots-left None = 0
+lots-left (Some q) = q .lots
