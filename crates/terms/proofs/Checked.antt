@@ -1,13 +1,19 @@
 -- A checked value is known by its number. Assumes nothing.
-use mathlib.Core.Path.{_≡_, PathP, toPathP, ap}
+use mathlib.Core.Path.{_≡_, PathP, toPathP, refl, ap, _∙_}
+use mathlib.Core.Bool.{Bool, true, false, cond, _&&_}
 use Prim.Native.Nat.{ℕ, _≤_}
 use native.Mathlib.Bridge.{le-prop}
 use native.Mathlib.Omega.{arith}
-use Rattle.std.proofs.shelf.Tests.{le-leb}
+use lib.Dec.{leb}
+use Rattle.std.proofs.shelf.Tests.{le-leb, leb-true, and-parts}
+use Rattle.std.specs.Results.{okPart}
+use Rattle.std.specs.declared.option.Option.the-variants.{Some}
+use Rattle.std.specs.declared.result.Result.{Result}
 use Rattle.std.specs.declared.result.Result.the-variants.{Ok, Err}
 use Rattle.terms.specs.Checked.{price-at, quantity-at, participant-at, price-if, quantity-if, participant-if}
 use Rattle.terms.specs.Ranges.{highest-price, largest-quantity, last-participant}
 use Rattle.terms.specs.declared.field.Field.{Field}
+use Rattle.terms.specs.declared.field.Field.the-variants.{Price as the-price, Quantity as the-quantity, Participant as the-participant}
 use Rattle.terms.specs.declared.participant.Participant.{Participant}
 use Rattle.terms.specs.declared.price.Price.{Price}
 use Rattle.terms.specs.declared.quantity.Quantity.{Quantity}
@@ -56,3 +62,39 @@ price-passes n f h e =
     let made : price-if n ≡ Ok (price-at n) = rw (le-leb n highest-price h) in
     let z : _≡_ {A = ℕ} 0 1 = cc in
     omega arith
+
+some-is : {V : Type 0} (v w : V) → Some v ≡ okPart {E = Field} (Ok w) → v ≡ w
+some-is v w e = cc
+
+none-is : {V : Type 0} (v : V) (f : Field) → Some v ≡ okPart (Err f) → ⊥
+none-is v f e = let z : _≡_ {A = ℕ} 0 1 = cc in omega arith
+
+-- what is known of a number once it was made a value
+pub price-in : (n : ℕ) (p : Price) (r : Result Price Field) → r ≡ price-if n → Some p ≡ okPart r → (n ≤ highest-price) × (p .ticks ≡ n)
+price-in n p r e s = go (leb n highest-price) refl (s ∙ ap okPart e)
+  where
+    go : (b : Bool) → leb n highest-price ≡ b → Some p ≡ okPart (cond b (Ok (price-at n)) (Err the-price)) → (n ≤ highest-price) × (p .ticks ≡ n)
+    go true h k = (leb-true _ _ h, omega (arith, ap (λ (q : Price). q .ticks) (some-is p (price-at n) k), leb-true _ _ h))
+    go false h k = absurd (none-is p the-price k)
+
+pub quantity-in : (n : ℕ) (q : Quantity) (r : Result Quantity Field) → r ≡ quantity-if n → Some q ≡ okPart r → (1 ≤ n) × (n ≤ largest-quantity) × (q .lots ≡ n)
+quantity-in n q r e s = go (leb 1 n && leb n largest-quantity) refl (s ∙ ap okPart e)
+  where
+    go : (b : Bool) → (leb 1 n && leb n largest-quantity) ≡ b → Some q ≡ okPart (cond b (Ok (quantity-at n)) (Err the-quantity)) → (1 ≤ n) × (n ≤ largest-quantity) × (q .lots ≡ n)
+    go true h k =
+        let both = and-parts _ _ h in
+        let low = leb-true _ _ (both .0) in
+        let high = leb-true _ _ (both .1) in
+        (low, high, omega (arith, ap (λ (x : Quantity). x .lots) (some-is q (quantity-at n) k)))
+    go false h k = absurd (none-is q the-quantity k)
+
+pub participant-in : (n : ℕ) (p : Participant) (r : Result Participant Field) → r ≡ participant-if n → Some p ≡ okPart r → (1 ≤ n) × (n ≤ last-participant) × (p .number ≡ n)
+participant-in n p r e s = go (leb 1 n && leb n last-participant) refl (s ∙ ap okPart e)
+  where
+    go : (b : Bool) → (leb 1 n && leb n last-participant) ≡ b → Some p ≡ okPart (cond b (Ok (participant-at n)) (Err the-participant)) → (1 ≤ n) × (n ≤ last-participant) × (p .number ≡ n)
+    go true h k =
+        let both = and-parts _ _ h in
+        let low = leb-true _ _ (both .0) in
+        let high = leb-true _ _ (both .1) in
+        (low, high, omega (arith, ap (λ (x : Participant). x .number) (some-is p (participant-at n) k)))
+    go false h k = absurd (none-is p the-participant k)
