@@ -29,6 +29,8 @@ impl Quantity {
         if self.lots <= other.lots {
             return None;
         }
-        Some(Quantity { lots: self.lots - other.lots })
+        Some(Quantity {
+            lots: self.lots - other.lots,
+        })
     }
 }

@@ -1,0 +1,5 @@
+// Matching: an arriving order goes down the opposite queue, inside two price ends.
+pub mod arriving;
+pub mod outcome;
+pub mod plan;
+pub mod sweep;
