@@ -5,7 +5,8 @@ use Prim.Native.Nat.{ℕ, _-_, min}
 use lib.Dec.{eqb}
 use lib.ListN.{set}
 use Rattle.limits.specs.Ranges.{tradeable}
-use Rattle.orders.specs.Queue.{Slot}
+use Rattle.limits.specs.declared.range.Range.{Range}
+use Rattle.orders.specs.Queue.{Slot, queue}
 use Rattle.orders.specs.Rows.{free}
 use Rattle.orders.specs.declared.row.OrderRow.{OrderRow}
 use Rattle.tape.specs.declared.row.TradeRow.{TradeRow}
@@ -81,3 +82,8 @@ trade-by code a f =
       mark = 0;
       day = a .day;
     }
+
+-- an arriving order against the queue of a side, inside two price ends
+abbrev pub matching : (ℕ → ℕ → Bool) → ℕ → (OrderRow → OrderRow → Bool) → Arriving → Range → List OrderRow → Walk
+matching reaches code first a range table =
+    walk reaches (range .low .ticks) (range .high .ticks) (a .limit .ticks) (a .quantity .lots) (queue code first (a .product) table)

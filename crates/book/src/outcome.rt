@@ -7,3 +7,12 @@ pub struct Plan {
     pub rest: Option<Quantity>,
     pub halted: bool,
 }
+
+// What an arriving order came to.
+#[derive(Clone, Copy)]
+pub struct Swept {
+    pub traded: u32,
+    pub rest: Option<Quantity>,
+    pub trades: u32,
+    pub halted: bool,
+}

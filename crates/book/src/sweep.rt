@@ -5,19 +5,23 @@ ghost use mathlib.Core.List.{List, [], _∷_, _++_, map};
 ghost use Prim.Native.Nat.{ℕ, _+_, _<_, _≤_};
 ghost use lib.ListN.{length};
 ghost use Rattle.orders.specs.Orders.{row-of as order-row};
-ghost use Rattle.orders.specs.Queue.{queue, slot, slot-of};
+ghost use Rattle.orders.specs.Queue.{slot};
 ghost use Rattle.tape.specs.Tapes.{latest};
 ghost use Rattle.tape.specs.Trades.{row-of};
 ghost use Rattle.terms.specs.Checked.{lots-left};
-ghost use Rattle.book.specs.Walks.{walk, fill-of, row-left, filled, trade-by};
+ghost use Rattle.book.specs.Sweeps.{takes, due, Sweeps};
+ghost use Rattle.book.specs.Walks.{matching, fill-of, row-left, filled, trade-by};
 use crate::arriving::Arriving;
 use crate::outcome::Plan;
+use crate::outcome::Swept;
+use crate::plan::plan;
 use limits::range::Range;
 use orders::order::Order;
 use orders::row::OrderRow;
 use orders::search::seek;
 use orders::side::BookSide;
 use tape::Tape;
+use tape::reading::last_time;
 use tape::trade::Trade;
 use terms::mark::Mark;
 use terms::quantity::Quantity;
@@ -86,13 +90,13 @@ fn run<S: BookSide, T: Tape>(
 ) -> Plan
 where
     Refusal: From<T::Fault>,
-    requires room { ⌜ length (walk (S·BookSide .reaches) (range .low .ticks) (range .high .ticks) (a .limit .ticks) (a .quantity .lots) (queue (S·BookSide .code) (S·BookSide .first) (a .product) (now table)) .fills) ≤ T·Tape .space (now tape) ⌝ }
+    requires room { ⌜ length (matching (S·BookSide .reaches) (S·BookSide .code) (S·BookSide .first) a range (now table) .fills) ≤ T·Tape .space (now tape) ⌝ }
     requires time { ⌜ latest (T·Tape .records (now tape)) ≤ a .time ⌝ }
-    ensures table { λ r. ⌜ now (table .exit) ≡ filled (walk (S·BookSide .reaches) (range .low .ticks) (range .high .ticks) (a .limit .ticks) (a .quantity .lots) (queue (S·BookSide .code) (S·BookSide .first) (a .product) (now (table .entry))) .fills) (now (table .entry)) ⌝ }
-    ensures tape { λ r. ⌜ T·Tape .records (now (tape .exit)) ≡ T·Tape .records (now (tape .entry)) ++ map (trade-by (S·BookSide .code) a) (walk (S·BookSide .reaches) (range .low .ticks) (range .high .ticks) (a .limit .ticks) (a .quantity .lots) (queue (S·BookSide .code) (S·BookSide .first) (a .product) (now (table .entry))) .fills) ⌝ }
-    ensures trades { λ r. ⌜ r .trades ≡ length (walk (S·BookSide .reaches) (range .low .ticks) (range .high .ticks) (a .limit .ticks) (a .quantity .lots) (queue (S·BookSide .code) (S·BookSide .first) (a .product) (now (table .entry))) .fills) ⌝ }
-    ensures rest { λ r. ⌜ lots-left (r .rest) ≡ walk (S·BookSide .reaches) (range .low .ticks) (range .high .ticks) (a .limit .ticks) (a .quantity .lots) (queue (S·BookSide .code) (S·BookSide .first) (a .product) (now (table .entry))) .rest ⌝ }
-    ensures halted { λ r. ⌜ r .halted ≡ walk (S·BookSide .reaches) (range .low .ticks) (range .high .ticks) (a .limit .ticks) (a .quantity .lots) (queue (S·BookSide .code) (S·BookSide .first) (a .product) (now (table .entry))) .halted ⌝ }
+    ensures table { λ r. ⌜ now (table .exit) ≡ filled (matching (S·BookSide .reaches) (S·BookSide .code) (S·BookSide .first) a range (now (table .entry)) .fills) (now (table .entry)) ⌝ }
+    ensures tape { λ r. ⌜ T·Tape .records (now (tape .exit)) ≡ T·Tape .records (now (tape .entry)) ++ map (trade-by (S·BookSide .code) a) (matching (S·BookSide .reaches) (S·BookSide .code) (S·BookSide .first) a range (now (table .entry)) .fills) ⌝ }
+    ensures trades { λ r. ⌜ r .trades ≡ length (matching (S·BookSide .reaches) (S·BookSide .code) (S·BookSide .first) a range (now (table .entry)) .fills) ⌝ }
+    ensures rest { λ r. ⌜ lots-left (r .rest) ≡ matching (S·BookSide .reaches) (S·BookSide .code) (S·BookSide .first) a range (now (table .entry)) .rest ⌝ }
+    ensures halted { λ r. ⌜ r .halted ≡ matching (S·BookSide .reaches) (S·BookSide .code) (S·BookSide .first) a range (now (table .entry)) .halted ⌝ }
 {
     let mut rest = Some(a.quantity);
     let mut trades: u32 = 0;
@@ -120,4 +124,47 @@ where
         rest,
         halted,
     }
+}
+
+fn lots(rest: Option<Quantity>) -> u32
+    ensures { λ r. ⌜ r ≡ lots-left rest ⌝ }
+{
+    match rest {
+        Some(quantity) => quantity.lots(),
+        None => 0,
+    }
+}
+
+// Whether the tape takes so many trades at this time.
+fn has_room<T: Tape>(tape: &T, time: u32, trades: u32) -> bool
+where
+    Refusal: From<T::Fault>,
+    ensures { λ r. ⌜ r ≡ takes (T·Tape .space (now (tape .entry))) (T·Tape .records (now (tape .entry))) time trades ⌝ }
+{
+    (trades == 0) | ((trades <= tape.room()) & (last_time(tape) <= time))
+}
+
+// An arriving order trades down the queue of the other side, S; one that must trade whole does so or is killed.
+pub fn sweep<S: BookSide, T: Tape>(table: &mut [OrderRow], tape: &mut T, a: Arriving, range: Range, whole: bool) -> Result<Swept, Refusal>
+where
+    Refusal: From<T::Fault>,
+    ensures { λ r. ⌜ Sweeps (T·Tape .records) (T·Tape .space) (S·BookSide .code) a (due whole (matching (S·BookSide .reaches) (S·BookSide .code) (S·BookSide .first) a range (now (table .entry)))) (now (table .entry)) (now (tape .entry)) r (now (table .exit)) (now (tape .exit)) ⌝ }
+{
+    let planned = plan::<S>(table, a, range);
+    if whole & planned.rest.is_some() {
+        return Ok(Swept { traded: 0, rest: None, trades: 0, halted: false });
+    }
+    if !has_room(tape, a.time, planned.trades) {
+        return Err(Refusal::TapeFull(planned.trades));
+    }
+    if planned.trades == 0 {
+        return Ok(Swept { traded: 0, rest: planned.rest, trades: 0, halted: planned.halted });
+    }
+    let done = run::<S, T>(table, tape, a, range);
+    Ok(Swept {
+        traded: a.quantity.lots() - lots(done.rest),
+        rest: done.rest,
+        trades: done.trades,
+        halted: done.halted,
+    })
 }
