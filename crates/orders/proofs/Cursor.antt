@@ -45,7 +45,7 @@ not-both : (a : Bool) → (a ≡ true → a ≡ false) → a ≡ false
 not-both true f = f refl
 not-both false f = refl
 
-true-unless : (a : Bool) → (a ≡ false → ⊥) → a ≡ true
+pub true-unless : (a : Bool) → (a ≡ false → ⊥) → a ≡ true
 true-unless true f = refl
 true-unless false f = absurd (f refl)
 
@@ -78,18 +78,18 @@ module _ (first : OrderRow → OrderRow → Bool) (oneway : (a b : OrderRow) →
             open-true (first (x .row) (y .row)) (first (y .row) (x .row)) (ltb (y .index) (x .index)) (a .0) (λ o. lt-ltb _ _ (omega (arith, n, ltb-false (x .index) (y .index) (a .1 o))));
       }
 
-abbrev Rising : List Slot → Type 0
+abbrev pub Rising : List Slot → Type 0
 Rising [] = Unit {0}
 Rising (x ∷ xs) = All (λ y. x .index < y .index) xs × Rising xs
 
-rising-slots : (k : ℕ) (rows : List OrderRow) → Rising (slots k rows)
+pub rising-slots : (k : ℕ) (rows : List OrderRow) → Rising (slots k rows)
 rising-slots k [] = tt
 rising-slots k (r ∷ rows) = (
   all-weaker (Within (suc k) (length rows)) (λ y. k < y .index) (λ y w. omega arith) (slots (suc k) rows) (slots-in (suc k) rows),
   rising-slots (suc k) rows,
 )
 
-rising-kept : (p : Slot → Bool) (es : List Slot) → Rising es → Rising (kept-by p es)
+pub rising-kept : (p : Slot → Bool) (es : List Slot) → Rising es → Rising (kept-by p es)
 rising-kept p [] r = tt
 rising-kept p (x ∷ xs) r = go (p x) (rising-kept p xs (r .1))
   where

@@ -4,3 +4,4 @@ pub mod Gone
 pub mod Cursor
 pub mod Found
 pub mod Leaving
+pub mod Ordered

@@ -4,3 +4,4 @@ pub mod Queue
 pub mod Questions
 pub mod Closes
 pub mod Resting
+pub mod Priority

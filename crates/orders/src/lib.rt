@@ -1,6 +1,7 @@
 // The order table: resting orders in lent memory, searched by price-time priority.
 pub mod checked;
 pub mod close;
+pub mod laws;
 pub mod order;
 pub mod questions;
 pub mod resting;

@@ -26,6 +26,9 @@ pub trait BookSide {
 
     law decided: { (a b : Row) → (a .place ≡ b .place → ⊥) → first a b ≡ not (first b a) };
 
+    // a limit that reaches an order reaches every one that stands no further back in price
+    law nearer: { (a b : Row) (limit : ℕ) → first b a ≡ false → reaches limit (b .price) ≡ true → reaches limit (a .price) ≡ true };
+
     fn side() -> Side
         ensures { λ r. ⌜ side-code r ≡ code ⌝ };
 
