@@ -32,12 +32,14 @@ where
     // the tape's own word for a record that it lacks
     type Fault: Drop;
 
+    // the meaning: records, numbered from 1, and how many more there is room for
     ghost records: { Self → List Row };
 
     ghost space: { Self → ℕ };
 
     ghost told: { Self·Fault → Lacks };
 
+    // the laws, which an impl gives as proofs
     ghost bounded: { (tape : Self) → length (records tape) + space tape ≤ most-records };
 
     ghost fair: { (tape : Self) → Fair (records tape) };

@@ -22,7 +22,7 @@ pub loop-i-holds : need.loop-i-holds
 loop-i-holds g c =
     let rows = g .T·Tape .records (c .args .tape .now) in
     let all : take (c .count-i .result) rows ≡ rows = take-all (c .count-i .result) rows (omega arith) in
-    (ap (last-of (c .args .product) (c .args .day)) all, λ k past in′. let z : ⊥ = omega arith in absurd z)
+    (ap (last-of (c .args .product) (c .args .day)) all, λ k past in′. absurd {A = of-day (c .args .product) (c .args .day) (record-at rows k) ≡ false} (omega arith))
 
 pub returns-then-trade-day : need.returns-then-trade-day
 returns-then-trade-day g c =
