@@ -1,3 +1,4 @@
 pub mod Walking
 pub mod Conserved
 pub mod Kept
+pub mod Behind

@@ -1,5 +1,6 @@
 // Matching: an arriving order goes down the opposite queue, inside two price ends.
 pub mod arriving;
+pub mod laws;
 pub mod outcome;
 pub mod plan;
 pub mod sweep;
