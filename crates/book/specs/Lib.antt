@@ -1,3 +1,4 @@
 pub mod Walks
 pub mod Sweeps
 pub mod Laws
+pub mod Entries

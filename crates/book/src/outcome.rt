@@ -16,3 +16,13 @@ pub struct Swept {
     pub trades: u32,
     pub halted: bool,
 }
+
+// What an entered order is answered.
+#[derive(Clone, Copy)]
+pub struct Receipt {
+    pub number: u32,
+    pub traded: u32,
+    pub rest: u32,
+    pub trades: u32,
+    pub halted: bool,
+}

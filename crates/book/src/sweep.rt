@@ -126,7 +126,7 @@ where
     }
 }
 
-fn lots(rest: Option<Quantity>) -> u32
+pub(crate) fn lots(rest: Option<Quantity>) -> u32
     ensures { λ r. ⌜ r ≡ lots-left rest ⌝ }
 {
     match rest {
@@ -136,7 +136,7 @@ fn lots(rest: Option<Quantity>) -> u32
 }
 
 // Whether the tape takes so many trades at this time.
-fn has_room<T: Tape>(tape: &T, time: u32, trades: u32) -> bool
+pub(crate) fn has_room<T: Tape>(tape: &T, time: u32, trades: u32) -> bool
 where
     Refusal: From<T::Fault>,
     ensures { λ r. ⌜ r ≡ takes (T·Tape .space (now (tape .entry))) (T·Tape .records (now (tape .entry))) time trades ⌝ }
