@@ -1,16 +1,18 @@
 // A line of text to the command that it writes.
 ghost use mathlib.Core.Path.{_≡_};
-ghost use Rattle.console.specs.Commands.{Starts, ends, side-of, product-line, order-line, made-by, verb-of, command-line};
-ghost use Rattle.console.specs.declared.command.Fault.the-variants.{Number as number-fault, Side as side-fault};
+ghost use Rattle.console.specs.Commands.{Starts, Dated, ends, side-of, limit-of, span-of, product-line, order-line, verb-of, command-line};
+ghost use Rattle.console.specs.declared.command.Fault.the-variants.{Number as number-fault, Side as side-fault, Limit as limit-fault, Duration as duration-fault};
 ghost use Rattle.reading.specs.Numerals.{numeral};
 use crate::command::Command;
 use crate::command::Fault;
 use crate::command::Order;
+use crate::command::Span;
 use crate::command::Verb;
 use reading::number::number;
 use reading::words::before_comment;
 use reading::words::says;
 use reading::words::split_word;
+use terms::duration::Duration;
 use terms::side::Side;
 
 fn number_from(text: &[u8]) -> Result<(u32, &[u8]), Fault>
@@ -63,25 +65,74 @@ fn product_line(text: &[u8]) -> Result<Command, Fault>
     )
 }
 
-fn order_line(text: &[u8], arrives: bool) -> Result<Command, Fault>
-    ensures { λ r. ⌜ r ≡ order-line (made-by arrives) (now (text .entry)) ⌝ }
+fn limit_from(text: &[u8]) -> Result<(Option<u32>, &[u8]), Fault>
+    ensures { λ r. ⌜ Starts limit-of limit-fault (now (text .entry)) r ⌝ }
+{
+    let (word, rest) = split_word(text);
+    if says(word, b"market") {
+        return Ok((None, rest));
+    }
+    match number(word) {
+        Some(price) => Ok((Some(price), rest)),
+        None => Err(Fault::Limit),
+    }
+}
+
+fn span_of(word: &[u8]) -> Option<Span>
+    ensures { λ r. ⌜ r ≡ span-of (now (word .entry)) ⌝ }
+{
+    if says(word, b"now") {
+        Some(Span::Now)
+    } else if says(word, b"session") {
+        Some(Span::Session)
+    } else if says(word, b"day") {
+        Some(Span::Day)
+    } else if says(word, b"until") {
+        Some(Span::Until)
+    } else if says(word, b"until-cancelled") {
+        Some(Span::UntilCancelled)
+    } else {
+        None
+    }
+}
+
+fn span_from(text: &[u8]) -> Result<(Span, &[u8]), Fault>
+    ensures { λ r. ⌜ Starts span-of duration-fault (now (text .entry)) r ⌝ }
+{
+    let (word, rest) = split_word(text);
+    match span_of(word) {
+        Some(span) => Ok((span, rest)),
+        None => Err(Fault::Duration),
+    }
+}
+
+// A duration until a date goes on with the date.
+fn dated(span: Span, text: &[u8]) -> Result<(Duration, &[u8]), Fault>
+    ensures { λ r. ⌜ Dated span (now (text .entry)) r ⌝ }
+{
+    match span {
+        Span::Now => Ok((Duration::Now, text)),
+        Span::Session => Ok((Duration::Session, text)),
+        Span::Day => Ok((Duration::Day, text)),
+        Span::UntilCancelled => Ok((Duration::UntilCancelled, text)),
+        Span::Until => {
+            let (date, text) = number_from(text)?;
+            Ok((Duration::Until(date), text))
+        }
+    }
+}
+
+fn order_line(text: &[u8]) -> Result<Command, Fault>
+    ensures { λ r. ⌜ r ≡ order-line (now (text .entry)) ⌝ }
 {
     let (side, text) = side_from(text)?;
     let (quantity, text) = number_from(text)?;
-    let (price, text) = number_from(text)?;
-    let order = Order {
-        side,
-        quantity,
-        price,
-    };
-    ends(
-        text,
-        if arrives {
-            Command::Enter(order)
-        } else {
-            Command::Book(order)
-        },
-    )
+    let (limit, text) = limit_from(text)?;
+    let (participant, text) = number_from(text)?;
+    let (span, text) = span_from(text)?;
+    let (duration, text) = dated(span, text)?;
+    let order = Order { side, quantity, limit, participant, duration };
+    ends(text, Command::Enter(order))
 }
 
 fn verb_of(word: &[u8]) -> Option<Verb>
@@ -89,14 +140,16 @@ fn verb_of(word: &[u8]) -> Option<Verb>
 {
     if says(word, b"product") {
         Some(Verb::Product)
-    } else if says(word, b"book") {
-        Some(Verb::Book)
     } else if says(word, b"enter") {
         Some(Verb::Enter)
     } else if says(word, b"top") {
         Some(Verb::Top)
     } else if says(word, b"range") {
         Some(Verb::Range)
+    } else if says(word, b"tape") {
+        Some(Verb::Tape)
+    } else if says(word, b"hex") {
+        Some(Verb::Hex)
     } else {
         None
     }
@@ -115,10 +168,11 @@ pub fn parse_line(line: &[u8]) -> Result<Option<Command>, Fault>
     };
     let command = match verb {
         Verb::Product => product_line(text)?,
-        Verb::Book => order_line(text, false)?,
-        Verb::Enter => order_line(text, true)?,
+        Verb::Enter => order_line(text)?,
         Verb::Top => ends(text, Command::Top)?,
         Verb::Range => ends(text, Command::Range)?,
+        Verb::Tape => ends(text, Command::Tape)?,
+        Verb::Hex => ends(text, Command::Hex)?,
     };
     Ok(Some(command))
 }
