@@ -27,6 +27,7 @@ module _ (first : OrderRow → OrderRow → Bool) (reaches : ℕ → ℕ → Boo
 
   pub further : (q : List Slot) → In-order (before first) q → Further (reaches limit) q
   further [] o = tt
-  further (a ∷ q) o =
-      ((λ n. all-weaker (λ b. before first a b ≡ true) (λ b. reaches limit (b .row .price) ≡ false) (λ b h. follows a b h n) q (o .0)),
-      further q (o .1))
+  further (a ∷ q) o = (
+    (λ n. all-weaker (λ b. before first a b ≡ true) (λ b. reaches limit (b .row .price) ≡ false) (λ b h. follows a b h n) q (o .0)),
+    further q (o .1),
+  )

@@ -64,7 +64,10 @@ module _ {T : Type 0} (records : T → List TradeRow) (space : T → ℕ) (code 
         reduced = rw empty;
         written = rw empty (sym (append-nil (records tape)));
         traded = rw empty traded;
-        rest = rest; trades = trades; halted = halted }
+        rest = rest;
+        trades = trades;
+        halted = halted;
+      }
 
   pub made-run : (q : ℕ) (table′ : List OrderRow) (tape′ : T) → Conserves q w → takes (space tape) (records tape) (a .time) (length (w .fills)) ≡ true → table′ ≡ filled (w .fills) table → records tape′ ≡ records tape ++ map (trade-by code a) (w .fills) → answer .traded ≡ q - lots-left (answer .rest) → lots-left (answer .rest) ≡ w .rest → answer .trades ≡ length (w .fills) → answer .halted ≡ w .halted → Made records space code a w table tape answer table′ tape′
   made-run q table′ tape′ conserves fits reduced written traded rest trades halted =

@@ -63,7 +63,8 @@ module _ (reaches : ℕ → ℕ → Bool) (lo hi limit : ℕ) where
         front = ap (λ l. e ∷ l) (k .front);
         whole-before = ((λ some. all-of-it q e es (rw is at some)), k .whole-before);
         stops = k .stops;
-        halts = k .halts }
+        halts = k .halts;
+      }
 
   kept : (q : ℕ) (es : List Slot) → Further r es → Kept q es (walk reaches lo hi limit q es)
   kept q [] f = at-unreached q [] tt
@@ -79,4 +80,9 @@ module _ (reaches : ℕ → ℕ → Bool) (lo hi limit : ℕ) where
       let k = kept q es f in
       record {
         conserves = walk-conserves reaches lo hi limit q es;
-        proper = k .proper; front = k .front; whole-before = k .whole-before; stops = k .stops; halts = k .halts }
+        proper = k .proper;
+        front = k .front;
+        whole-before = k .whole-before;
+        stops = k .stops;
+        halts = k .halts;
+      }

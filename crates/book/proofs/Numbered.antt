@@ -20,11 +20,19 @@ use Rattle.book.specs.declared.incoming.Incoming.{Incoming}
 pub arriving-is : (o : Incoming) (n : ℕ) (p : Arriving) → p .product ≡ o .product → p .number ≡ max n 1 → p .participant ≡ o .participant → p .limit ≡ o .limit → p .quantity ≡ o .quantity → p .time ≡ o .time → p .day ≡ o .day → p .established ≡ o .established → p .«no_bust» ≡ o .«no_bust» → p ≡ arriving-as o n
 arriving-is o n p product number participant limit quantity time day established narrow =
     λ i. record {
-      product = product i; number = number i; participant = participant i; limit = limit i; quantity = quantity i;
-      time = time i; day = day i; established = established i; «no_bust» = narrow i;
+      product = product i;
+      number = number i;
+      participant = participant i;
+      limit = limit i;
+      quantity = quantity i;
+      time = time i;
+      day = day i;
+      established = established i;
+      «no_bust» = narrow i;
       listed = below product last-product (p .listed) (o .listed) i;
       numbered = above number 1 (p .numbered) (some-number n) i;
-      narrow = below narrow widest-no-bust (p .narrow) (o .narrow) i }
+      narrow = below narrow widest-no-bust (p .narrow) (o .narrow) i;
+    }
 
 -- what holds of the order and its walk, holds of them as they are planned
 pub as-planned : (P : Arriving → Walk → Type 0) (reaches : ℕ → ℕ → Bool) (code : ℕ) (first : OrderRow → OrderRow → Bool) (o : Incoming) (stamp number : ℕ) (range : Range) (table : List OrderRow) (a : Arriving) (rests : Bool) → rests ≡ may-rest (o .duration) → a ≡ arriving-as o number → number ≡ stamp + 1 → P a (due (not rests) (matching reaches code first a range table)) → P (arriving-as o (stamp + 1)) (planned reaches code first o stamp range table)

@@ -35,17 +35,35 @@ some-number n = omega arith
 abbrev pub arriving-as : Incoming → ℕ → Arriving
 arriving-as o number =
     record {
-      product = o .product; number = max number 1; participant = o .participant; limit = o .limit; quantity = o .quantity;
-      time = o .time; day = o .day; established = o .established; «no_bust» = o .«no_bust»;
-      listed = o .listed; numbered = some-number number; narrow = o .narrow }
+      product = o .product;
+      number = max number 1;
+      participant = o .participant;
+      limit = o .limit;
+      quantity = o .quantity;
+      time = o .time;
+      day = o .day;
+      established = o .established;
+      «no_bust» = o .«no_bust»;
+      listed = o .listed;
+      numbered = some-number number;
+      narrow = o .narrow;
+    }
 
 -- what a place holds of it: its number is its place in time too
 abbrev pub resting-row : Side → Incoming → ℕ → ℕ → OrderRow
 resting-row side o number rest =
     record {
-      number = number; place = number; product = o .product; side = side-code side; price = o .limit .ticks; rest = rest;
-      participant = o .participant .number; duration = duration-code (o .duration); date = duration-date (o .duration);
-      entered = o .day }
+      number = number;
+      place = number;
+      product = o .product;
+      side = side-code side;
+      price = o .limit .ticks;
+      rest = rest;
+      participant = o .participant .number;
+      duration = duration-code (o .duration);
+      date = duration-date (o .duration);
+      entered = o .day;
+    }
 
 abbrev pub any-free : ℕ → List OrderRow → Bool
 any-free products [] = false

@@ -34,11 +34,22 @@ fn due_trades<S: BookSide>(table: &[OrderRow], a: Arriving, range: Range, whole:
     ensures { λ r. ⌜ r ≡ length (due whole (matching (S·BookSide .reaches) (S·BookSide .code) (S·BookSide .first) a range (now (table .entry))) .fills) ⌝ }
 {
     let planned = plan::<S>(table, a, range);
-    if whole & planned.rest.is_some() { 0 } else { planned.trades }
+    if whole & planned.rest.is_some() {
+        0
+    } else {
+        planned.trades
+    }
 }
 
 // What is left of an order rests at this index.
-fn settle(table: &mut [OrderRow], index: usize, side: Side, o: Incoming, number: u32, rest: Option<Quantity>)
+fn settle(
+    table: &mut [OrderRow],
+    index: usize,
+    side: Side,
+    o: Incoming,
+    number: u32,
+    rest: Option<Quantity>,
+)
     requires numbered { ⌜ 1 ≤ number ⌝ }
     requires lasting { ⌜ (0 < lots-left rest → may-rest (o .duration) ≡ true) ⌝ }
     ensures { λ _. ⌜ now (table .exit) ≡ settled (resting-row side o number) index (lots-left rest) (now (table .entry)) ⌝ }
@@ -49,7 +60,15 @@ fn settle(table: &mut [OrderRow], index: usize, side: Side, o: Incoming, number:
 }
 
 // The order meets the queue of the other side, S.
-fn enter_against<S: BookSide, T: Tape>(table: &mut [OrderRow], tape: &mut T, products: u32, stamp: u32, side: Side, o: Incoming, range: Range) -> Result<Receipt, Refusal>
+fn enter_against<S: BookSide, T: Tape>(
+    table: &mut [OrderRow],
+    tape: &mut T,
+    products: u32,
+    stamp: u32,
+    side: Side,
+    o: Incoming,
+    range: Range,
+) -> Result<Receipt, Refusal>
 where
     Refusal: From<T::Fault>,
     ensures { λ r. ⌜ Enters (S·BookSide .reaches) (S·BookSide .code) (S·BookSide .first) (T·Tape .records) (T·Tape .space) products stamp side o range (now (table .entry)) (now (tape .entry)) r (now (table .exit)) (now (tape .exit)) ⌝ }
@@ -81,7 +100,15 @@ where
 }
 
 // The order takes the stamp after the last one given as its number.
-pub fn enter<T: Tape>(table: &mut [OrderRow], tape: &mut T, products: u32, stamp: u32, side: Side, o: Incoming, range: Range) -> Result<Receipt, Refusal>
+pub fn enter<T: Tape>(
+    table: &mut [OrderRow],
+    tape: &mut T,
+    products: u32,
+    stamp: u32,
+    side: Side,
+    o: Incoming,
+    range: Range,
+) -> Result<Receipt, Refusal>
 where
     Refusal: From<T::Fault>,
     ensures { λ r. ⌜ Enters-from (T·Tape .records) (T·Tape .space) products stamp side o range (now (table .entry)) (now (tape .entry)) r (now (table .exit)) (now (tape .exit)) ⌝ }

@@ -145,20 +145,36 @@ where
 }
 
 // An arriving order trades down the queue of the other side, S; one that must trade whole does so or is killed.
-pub fn sweep<S: BookSide, T: Tape>(table: &mut [OrderRow], tape: &mut T, a: Arriving, range: Range, whole: bool) -> Result<Swept, Refusal>
+pub fn sweep<S: BookSide, T: Tape>(
+    table: &mut [OrderRow],
+    tape: &mut T,
+    a: Arriving,
+    range: Range,
+    whole: bool,
+) -> Result<Swept, Refusal>
 where
     Refusal: From<T::Fault>,
     ensures { λ r. ⌜ Sweeps (T·Tape .records) (T·Tape .space) (S·BookSide .code) a (due whole (matching (S·BookSide .reaches) (S·BookSide .code) (S·BookSide .first) a range (now (table .entry)))) (now (table .entry)) (now (tape .entry)) r (now (table .exit)) (now (tape .exit)) ⌝ }
 {
     let planned = plan::<S>(table, a, range);
     if whole & planned.rest.is_some() {
-        return Ok(Swept { traded: 0, rest: None, trades: 0, halted: false });
+        return Ok(Swept {
+            traded: 0,
+            rest: None,
+            trades: 0,
+            halted: false,
+        });
     }
     if !has_room(tape, a.time, planned.trades) {
         return Err(Refusal::TapeFull(planned.trades));
     }
     if planned.trades == 0 {
-        return Ok(Swept { traded: 0, rest: planned.rest, trades: 0, halted: planned.halted });
+        return Ok(Swept {
+            traded: 0,
+            rest: planned.rest,
+            trades: 0,
+            halted: planned.halted,
+        });
     }
     let done = run::<S, T>(table, tape, a, range);
     Ok(Swept {

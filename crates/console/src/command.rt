@@ -36,7 +36,11 @@ pub struct Order {
 #[derive(Clone, Copy)]
 pub enum Command {
     // the figures of the product: sweep ticks, daily ticks, reference price
-    Product { sweep: u32, daily: u32, reference: u32 },
+    Product {
+        sweep: u32,
+        daily: u32,
+        reference: u32,
+    },
     // an arriving order
     Enter(Order),
     // the best buy and the best sell

@@ -131,7 +131,13 @@ fn order_line(text: &[u8]) -> Result<Command, Fault>
     let (participant, text) = number_from(text)?;
     let (span, text) = span_from(text)?;
     let (duration, text) = dated(span, text)?;
-    let order = Order { side, quantity, limit, participant, duration };
+    let order = Order {
+        side,
+        quantity,
+        limit,
+        participant,
+        duration,
+    };
     ends(text, Command::Enter(order))
 }
 

@@ -63,8 +63,18 @@ small-width = omega arith
 abbrev pub incoming-of : Product → Order → Price → Quantity → Participant → Incoming
 incoming-of product order limit quantity participant =
     record {
-      product = 0; participant = participant; limit = limit; quantity = quantity; duration = order .duration; time = 0; day = 0;
-      established = product .reference; «no_bust» = 0; listed = small-product; narrow = small-width }
+      product = 0;
+      participant = participant;
+      limit = limit;
+      quantity = quantity;
+      duration = order .duration;
+      time = 0;
+      day = 0;
+      established = product .reference;
+      «no_bust» = 0;
+      listed = small-product;
+      narrow = small-width;
+    }
 
 -- what may stop an order at the desk, in the order in which it is tested
 abbrev pub desk-checks : Product → Bool → List OrderRow → Order → List (Option Refusal)

@@ -40,7 +40,11 @@ impl Desk {
     pub fn new() -> Desk
         ensures { λ r. ⌜ r ≡ empty-desk ⌝ }
     {
-        Desk { product: None, stamp: 0, halted: false }
+        Desk {
+            product: None,
+            stamp: 0,
+            halted: false,
+        }
     }
 
     pub(crate) fn listed(&self) -> Result<Product, Refusal>
@@ -61,7 +65,15 @@ impl Desk {
             return Err(Refusal::Malformed(Malformed::Entry(0)));
         }
         let reference = Price::new(reference)?;
-        *self = Desk { product: Some(Product { sweep, daily, reference }), stamp: self.stamp, halted: false };
+        *self = Desk {
+            product: Some(Product {
+                sweep,
+                daily,
+                reference,
+            }),
+            stamp: self.stamp,
+            halted: false,
+        };
         Ok(())
     }
 

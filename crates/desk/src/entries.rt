@@ -12,7 +12,12 @@ use tape::Tape;
 use terms::refusal::Refusal;
 
 impl Desk {
-    pub fn enter<T: Tape>(&mut self, table: &mut [OrderRow], tape: &mut T, order: Order) -> Result<Receipt, Refusal>
+    pub fn enter<T: Tape>(
+        &mut self,
+        table: &mut [OrderRow],
+        tape: &mut T,
+        order: Order,
+    ) -> Result<Receipt, Refusal>
     where
         Refusal: From<T::Fault>,
         ensures { λ r. ⌜ Desk-enters (T·Tape .records) (T·Tape .space) (now (self .entry) .product) order (now (self .entry)) (now (table .entry)) (now (tape .entry)) r (now (self .exit)) (now (table .exit)) (now (tape .exit)) ⌝ }
@@ -21,7 +26,11 @@ impl Desk {
         let incoming = self.prepare(product, table, order)?;
         let range = Range::around(product.reference, product.daily);
         let receipt = enter(table, tape, 1, self.stamp, order.side, incoming, range)?;
-        *self = Desk { product: self.product, stamp: receipt.number, halted: receipt.halted };
+        *self = Desk {
+            product: self.product,
+            stamp: receipt.number,
+            halted: receipt.halted,
+        };
         Ok(receipt)
     }
 }

@@ -34,7 +34,11 @@ fn best_opposite(side: Side, table: &[OrderRow]) -> Option<Price>
 fn sweep_of(product: Product, side: Side, table: &[OrderRow]) -> Price
     ensures { λ r. ⌜ r ≡ sweep-of product side (now (table .entry)) ⌝ }
 {
-    sweep_price(side, anchor(best_opposite(side, table), product.reference), product.sweep)
+    sweep_price(
+        side,
+        anchor(best_opposite(side, table), product.reference),
+        product.sweep,
+    )
 }
 
 // A market order is a limit order at its sweep price.
@@ -56,7 +60,13 @@ fn hold(side: Side, limit: Option<u32>, price: Price, sweep: Price) -> Result<()
     Ok(())
 }
 
-fn incoming(product: Product, order: Order, limit: Price, quantity: Quantity, participant: Participant) -> Incoming
+fn incoming(
+    product: Product,
+    order: Order,
+    limit: Price,
+    quantity: Quantity,
+    participant: Participant,
+) -> Incoming
     ensures { λ r. ⌜ r ≡ incoming-of product order limit quantity participant ⌝ }
 {
     Incoming {
@@ -74,7 +84,12 @@ fn incoming(product: Product, order: Order, limit: Price, quantity: Quantity, pa
 
 impl Desk {
     // The order as it comes in, once nothing stops it at the desk.
-    pub(crate) fn prepare(&self, product: Product, table: &[OrderRow], order: Order) -> Result<Incoming, Refusal>
+    pub(crate) fn prepare(
+        &self,
+        product: Product,
+        table: &[OrderRow],
+        order: Order,
+    ) -> Result<Incoming, Refusal>
         ensures { λ r. ⌜ r ≡ answered (earliest (desk-checks product (now (self .entry) .halted) (now (table .entry)) order)) (comes-in product (now (table .entry)) order) ⌝ }
     {
         let sweep = sweep_of(product, order.side, table);

@@ -5,5 +5,4 @@ use crate::side::BookSide;
 
 pub fn queue_laws<S: BookSide>(table: &[OrderRow], product: u32)
     ensures { λ _. ⌜ Queue-laws (S·BookSide .code) (S·BookSide .first) product (now (table .entry)) ⌝ }
-{
-}
+{}

@@ -33,13 +33,16 @@ returns-then-not-has-room g c =
     let tape = c .args .tape .now in
     let n = length (planned (s .reaches) (s .code) (s .first) o (c .args .stamp) (c .args .range) table .fills) in
     let same : c .due-trades-trades .result ≡ n =
-      c .due-trades-trades .ensures
-      ∙ ap (λ (b : Bool). length (due (not b) (matching (s .reaches) (s .code) (s .first) (c .arriving .result) (c .args .range) table) .fills)) (c .may-rest-whole .ensures)
-      ∙ ap (λ (a : Arriving). length (due (not (may-rest (o .duration))) (matching (s .reaches) (s .code) (s .first) a (c .args .range) table) .fills)) (c .arriving .ensures) in
-    let place = c .in-Ok .ensures tt in
-    (full-tape (o .product) (c .args .products) (c .args .stamp) table (takes (t .space tape) (t .records tape) (o .time) n) n (c .if-o-products .left) (place-free (c .args .products) table (c .in-Ok .index) (place .0) (place .1))
-    (ap (takes (t .space tape) (t .records tape) (o .time)) (sym same) ∙ sym (c .if-not-has-room .ensures tt))
-    ∙ ap (λ (k : ℕ). Some (TapeFull k)) (sym same), refl, refl)
+    c .due-trades-trades .ensures
+    ∙ ap (λ (b : Bool). length (due (not b) (matching (s .reaches) (s .code) (s .first) (c .arriving .result) (c .args .range) table) .fills)) (c .may-rest-whole .ensures)
+    ∙ ap (λ (a : Arriving). length (due (not (may-rest (o .duration))) (matching (s .reaches) (s .code) (s .first) a (c .args .range) table) .fills)) (c .arriving .ensures) in
+    let place = c .in-Ok .ensures tt in (
+      full-tape (o .product) (c .args .products) (c .args .stamp) table (takes (t .space tape) (t .records tape) (o .time) n) n (c .if-o-products .left) (place-free (c .args .products) table (c .in-Ok .index) (place .0) (place .1))
+          (ap (takes (t .space tape) (t .records tape) (o .time)) (sym same) ∙ sym (c .if-not-has-room .ensures tt))
+          ∙ ap (λ (k : ℕ). Some (TapeFull k)) (sym same),
+      refl,
+      refl,
+    )
 
 pub returns-in-rest : need.returns-in-rest
 returns-in-rest g c =
@@ -50,12 +53,15 @@ returns-in-rest g c =
     let tape = c .args .tape .now in
     let n = length (planned (s .reaches) (s .code) (s .first) o (c .args .stamp) (c .args .range) table .fills) in
     let same : c .due-trades-trades .result ≡ n =
-      c .due-trades-trades .ensures
-      ∙ ap (λ (b : Bool). length (due (not b) (matching (s .reaches) (s .code) (s .first) (c .arriving .result) (c .args .range) table) .fills)) (c .may-rest-whole .ensures)
-      ∙ ap (λ (a : Arriving). length (due (not (may-rest (o .duration))) (matching (s .reaches) (s .code) (s .first) a (c .args .range) table) .fills)) (c .arriving .ensures) in
-    let place = c .in-Ok .ensures tt in
-    (no-stamp (o .product) (c .args .products) (c .args .stamp) table (takes (t .space tape) (t .records tape) (o .time) n) n (c .if-o-products .left) (place-free (c .args .products) table (c .in-Ok .index) (place .0) (place .1))
-    (ap (takes (t .space tape) (t .records tape) (o .time)) (sym same) ∙ sym (c .if-not-has-room .ensures tt)) (search needs), refl, refl)
+    c .due-trades-trades .ensures
+    ∙ ap (λ (b : Bool). length (due (not b) (matching (s .reaches) (s .code) (s .first) (c .arriving .result) (c .args .range) table) .fills)) (c .may-rest-whole .ensures)
+    ∙ ap (λ (a : Arriving). length (due (not (may-rest (o .duration))) (matching (s .reaches) (s .code) (s .first) a (c .args .range) table) .fills)) (c .arriving .ensures) in
+    let place = c .in-Ok .ensures tt in (
+      no-stamp (o .product) (c .args .products) (c .args .stamp) table (takes (t .space tape) (t .records tape) (o .time) n) n (c .if-o-products .left) (place-free (c .args .products) table (c .in-Ok .index) (place .0) (place .1))
+          (ap (takes (t .space tape) (t .records tape) (o .time)) (sym same) ∙ sym (c .if-not-has-room .ensures tt)) (search needs),
+      refl,
+      refl,
+    )
 
 pub returns-in-Break-swept : need.returns-in-Break-swept
 returns-in-Break-swept g c =
@@ -69,11 +75,14 @@ returns-in-Break-swept g c =
     let place = c .in-Ok .ensures tt in
     let w = planned (s .reaches) (s .code) (s .first) o (c .args .stamp) (c .args .range) table in
     let u : Unmade (t .records) (t .space) (arriving-as o (c .args .stamp + 1)) w table tape (c .in-Break-swept .field-0 .0) (c .sweep .last .table) (c .sweep .last .tape) =
-      as-planned (λ a v. Unmade (t .records) (t .space) a v table tape (c .in-Break-swept .field-0 .0) (c .sweep .last .table) (c .sweep .last .tape))
-      (s .reaches) (s .code) (s .first) o (c .args .stamp) (c .in-Some .number) (c .args .range) table (c .arriving-2 .result) (c .may-rest-whole .result) (c .may-rest-whole .ensures) (c .arriving-2 .ensures) (number .1) (c .in-Break-swept .ensures tt) in
-    rw (p .1)
-    (full-tape (o .product) (c .args .products) (c .args .stamp) table (takes (t .space tape) (t .records tape) (o .time) (length (w .fills))) (length (w .fills)) (c .if-o-products .left) (place-free (c .args .products) table (c .in-Ok .index) (place .0) (place .1)) (u .full)
-    ∙ ap (λ r. Some r) (sym (p .2 ∙ u .told)), u .same-table, u .same-tape)
+    as-planned (λ a v. Unmade (t .records) (t .space) a v table tape (c .in-Break-swept .field-0 .0) (c .sweep .last .table) (c .sweep .last .tape))
+    (s .reaches) (s .code) (s .first) o (c .args .stamp) (c .in-Some .number) (c .args .range) table (c .arriving-2 .result) (c .may-rest-whole .result) (c .may-rest-whole .ensures) (c .arriving-2 .ensures) (number .1) (c .in-Break-swept .ensures tt) in
+    rw (p .1) (
+      full-tape (o .product) (c .args .products) (c .args .stamp) table (takes (t .space tape) (t .records tape) (o .time) (length (w .fills))) (length (w .fills)) (c .if-o-products .left) (place-free (c .args .products) table (c .in-Ok .index) (place .0) (place .1)) (u .full)
+          ∙ ap (λ r. Some r) (sym (p .2 ∙ u .told)),
+      u .same-table,
+      u .same-tape,
+    )
 
 pub settle-requires : need.settle-requires
 settle-requires g c κs =
@@ -85,7 +94,8 @@ settle-requires g c κs =
     let w = matching (s .reaches) (s .code) (s .first) (c .arriving-2 .result) (c .args .range) (c .args .table .now) in
     record {
       numbered = omega (arith, number .1);
-      lasting = λ some. sym (c .may-rest-whole .ensures) ∙ left-rests (c .may-rest-whole .result) w (rw (swept .rest) at some) }
+      lasting = λ some. sym (c .may-rest-whole .ensures) ∙ left-rests (c .may-rest-whole .result) w (rw (swept .rest) at some);
+    }
 
 pub returns : need.returns
 returns g c =
@@ -99,16 +109,23 @@ returns g c =
     let swept = c .in-Continue-swept .swept in
     let w = planned (s .reaches) (s .code) (s .first) o (c .args .stamp) (c .args .range) table in
     let m : Made (t .records) (t .space) (s .code) (arriving-as o (c .args .stamp + 1)) w table tape swept (c .sweep .last .table) (c .sweep .last .tape) =
-      as-planned (λ a v. Made (t .records) (t .space) (s .code) a v table tape swept (c .sweep .last .table) (c .sweep .last .tape))
-      (s .reaches) (s .code) (s .first) o (c .args .stamp) (c .in-Some .number) (c .args .range) table (c .arriving-2 .result) (c .may-rest-whole .result) (c .may-rest-whole .ensures) (c .arriving-2 .ensures) (number .1) (c .in-Continue-swept .ensures tt) in
-    let left : c .lots .result ≡ lots-left (swept .rest) = c .lots .ensures in
-    (none-fails (o .product) (c .args .products) (c .args .stamp) table (takes (t .space tape) (t .records tape) (o .time) (length (w .fills))) (length (w .fills)) (c .if-o-products .left) (place-free (c .args .products) table (c .in-Ok .index) (place .0) (place .1)) (m .fits) (omega (arith, number .0)),
-    record {
-      number = number .1; traded = m .traded; rest = left ∙ m .rest; trades = m .trades; halted = m .halted; written = m .written;
-      place = c .in-Ok .index;
-      free-before = record { counts = place .0; was-free = place .1 };
-      reduced =
-        c .settle .ensures
-        ∙ ap (λ (n : ℕ). settled (resting-row (c .args .side) o n) (c .in-Ok .index) (lots-left (swept .rest)) (c .sweep .last .table)) (number .1)
-        ∙ ap (λ (k : ℕ). settled (resting-row (c .args .side) o (c .args .stamp + 1)) (c .in-Ok .index) k (c .sweep .last .table)) (sym left)
-        ∙ ap (settled (resting-row (c .args .side) o (c .args .stamp + 1)) (c .in-Ok .index) (c .lots .result)) (m .reduced) })
+    as-planned (λ a v. Made (t .records) (t .space) (s .code) a v table tape swept (c .sweep .last .table) (c .sweep .last .tape))
+    (s .reaches) (s .code) (s .first) o (c .args .stamp) (c .in-Some .number) (c .args .range) table (c .arriving-2 .result) (c .may-rest-whole .result) (c .may-rest-whole .ensures) (c .arriving-2 .ensures) (number .1) (c .in-Continue-swept .ensures tt) in
+    let left : c .lots .result ≡ lots-left (swept .rest) = c .lots .ensures in (
+      none-fails (o .product) (c .args .products) (c .args .stamp) table (takes (t .space tape) (t .records tape) (o .time) (length (w .fills))) (length (w .fills)) (c .if-o-products .left) (place-free (c .args .products) table (c .in-Ok .index) (place .0) (place .1)) (m .fits) (omega (arith, number .0)),
+      record {
+        number = number .1;
+        traded = m .traded;
+        rest = left ∙ m .rest;
+        trades = m .trades;
+        halted = m .halted;
+        written = m .written;
+        place = c .in-Ok .index;
+        free-before = record { counts = place .0; was-free = place .1 };
+        reduced =
+            c .settle .ensures
+            ∙ ap (λ (n : ℕ). settled (resting-row (c .args .side) o n) (c .in-Ok .index) (lots-left (swept .rest)) (c .sweep .last .table)) (number .1)
+            ∙ ap (λ (k : ℕ). settled (resting-row (c .args .side) o (c .args .stamp + 1)) (c .in-Ok .index) k (c .sweep .last .table)) (sym left)
+            ∙ ap (settled (resting-row (c .args .side) o (c .args .stamp + 1)) (c .in-Ok .index) (c .lots .result)) (m .reduced);
+      },
+    )

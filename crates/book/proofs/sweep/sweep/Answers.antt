@@ -41,7 +41,7 @@ returns g c =
     let alive : due (c .args .whole) w ≡ w = not-killed (c .args .whole) w (c .plan-planned .result .rest) (ap (λ b. c .args .whole && b) (sym (c .is-some .ensures)) ∙ c .if-whole-is-some .left) (planned .rest) in
     let answer : Swept = record { traded = c .lots .result - c .lots-2 .result; rest = c .run-done .result .rest; trades = c .run-done .result .trades; halted = c .run-done .result .halted } in
     let fits : takes (t .space (c .args .tape .now)) (t .records (c .args .tape .now)) (a .time) (length (w .fills)) ≡ true =
-      ap (takes (t .space (c .args .tape .now)) (t .records (c .args .tape .now)) (a .time)) (sym (planned .trades)) ∙ sym (c .if-not-has-room .ensures tt) in
+    ap (takes (t .space (c .args .tape .now)) (t .records (c .args .tape .now)) (a .time)) (sym (planned .trades)) ∙ sym (c .if-not-has-room .ensures tt) in
     let traded : answer .traded ≡ a .quantity .lots - lots-left (answer .rest) = omega (arith, c .lots .ensures, c .lots-2 .ensures) in
     subst (λ (v : Walk). Made (t .records) (t .space) (s .code) a v (c .args .table .now) (c .args .tape .now) answer (c .run-done .last .table) (c .run-done .last .tape)) (sym alive)
     (made-run (t .records) (t .space) (s .code) a w (c .args .table .now) (c .args .tape .now) answer (a .quantity .lots) (c .run-done .last .table) (c .run-done .last .tape)

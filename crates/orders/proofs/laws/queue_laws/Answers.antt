@@ -12,4 +12,5 @@ returns g c =
     let places = slots 0 (counted (c .args .table .now)) in
     record {
       holds = shuffled-sorted (before (s .first)) (kept-by p places);
-      ordered = ordered-sorted (before (s .first)) (ranks (s .first) (met .oneway) (met .chain)) (kept-by p places) (rising-kept p places (rising-slots 0 (counted (c .args .table .now)))) }
+      ordered = ordered-sorted (before (s .first)) (ranks (s .first) (met .oneway) (met .chain)) (kept-by p places) (rising-kept p places (rising-slots 0 (counted (c .args .table .now))));
+    }

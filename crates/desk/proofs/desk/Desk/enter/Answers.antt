@@ -31,8 +31,8 @@ returns-in-Break-receipt g c =
     let pass = passes-with _ _ (c .in-Continue-incoming .incoming) (c .in-Continue-incoming .ensures tt) in
     let told : c .from-residual-in-Break-receipt .result ≡ Err (c .in-Break-receipt .field-0 .0) = p .1 ∙ ap (λ e. Err e) (p .2) in
     let came =
-      subst (λ (r : Result Receipt Refusal). Enters-from (t .records) (t .space) 1 (self .stamp) (order .side) (comes-in product table order) (tradeable-range (product .reference .ticks) (product .daily)) table tape r (c .enter .last .table) (c .enter .last .tape)) (sym told)
-      (as-came (t .records) (t .space) 1 (self .stamp) (order .side) table tape (Err (c .in-Break-receipt .field-0 .0)) (c .enter .last .table) (c .enter .last .tape) _ _ (c .around-range .result) _ (pass .1) (c .around-range .ensures) (c .in-Break-receipt .ensures tt)) in
+    subst (λ (r : Result Receipt Refusal). Enters-from (t .records) (t .space) 1 (self .stamp) (order .side) (comes-in product table order) (tradeable-range (product .reference .ticks) (product .daily)) table tape r (c .enter .last .table) (c .enter .last .tape)) (sym told)
+    (as-came (t .records) (t .space) 1 (self .stamp) (order .side) table tape (Err (c .in-Break-receipt .field-0 .0)) (c .enter .last .table) (c .enter .last .tape) _ _ (c .around-range .result) _ (pass .1) (c .around-range .ensures) (c .in-Break-receipt .ensures tt)) in
     to-book (t .records) (t .space) _ product order self table tape _ _ _ _ is (pass .0)
     (record { enters = came; leaves = ap (after-entry self) (sym told) })
 
