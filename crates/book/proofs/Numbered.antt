@@ -1,5 +1,5 @@
 -- An incoming order under its number. Assumes nothing.
-use mathlib.Core.Path.{_≡_, refl, subst}
+use mathlib.Core.Path.{_≡_, refl, ap, subst, _∙_}
 use mathlib.Core.Bool.{Bool, true, false, cond, not}
 use mathlib.Core.List.{List}
 use Prim.Native.Nat.{ℕ, _+_, _<_, max}
@@ -40,6 +40,12 @@ as-planned P reaches code first o stamp number range table a rests e f n h =
     subst (λ (k : ℕ). P (arriving-as o k) (due (not (may-rest (o .duration))) (matching reaches code first (arriving-as o k) range table))) n
     (subst (λ (x : Arriving). P x (due (not (may-rest (o .duration))) (matching reaches code first x range table))) f
     (subst (λ (b : Bool). P a (due (not b) (matching reaches code first a range table))) e h))
+
+-- the walk does not depend on the number that the order will have
+pub due-planned : (reaches : ℕ → ℕ → Bool) (code : ℕ) (first : OrderRow → OrderRow → Bool) (o : Incoming) (stamp number : ℕ) (range : Range) (table : List OrderRow) (a : Arriving) (rests : Bool) → rests ≡ may-rest (o .duration) → a ≡ arriving-as o number → due (not rests) (matching reaches code first a range table) ≡ planned reaches code first o stamp range table
+due-planned reaches code first o stamp number range table a rests e f =
+    ap (λ (b : Bool). due (not b) (matching reaches code first a range table)) e
+    ∙ ap (λ (x : Arriving). due (not (may-rest (o .duration))) (matching reaches code first x range table)) f
 
 -- only an order that may rest has something left
 pub left-rests : (rests : Bool) (w : Walk) → 0 < due (not rests) w .rest → rests ≡ true

@@ -1,5 +1,6 @@
 // One place of the order table as plain numbers: what memory holds, whether it is an order or not.
 #[derive(Clone, Copy)]
+#[repr(C)]
 pub struct OrderRow {
     pub number: u32,
     // where the order stands in time

@@ -11,11 +11,11 @@ use Rattle.terms.specs.Checked.{lots-left}
 use Rattle.terms.specs.Durations.{may-rest}
 use Rattle.terms.specs.declared.refusal.Refusal.the-variants.{TableFull, TapeFull}
 use Rattle.book.specs.Entries.{planned, arriving-as, resting-row, settled}
-use Rattle.book.specs.Sweeps.{due, takes, Made, Unmade}
-use Rattle.book.specs.Walks.{matching}
+use Rattle.book.specs.Sweeps.{takes, Made, Unmade}
+use Rattle.book.specs.Walks.{Walk, matching}
 use Rattle.book.specs.declared.arriving.Arriving.{Arriving}
 use Rattle.book.proofs.Entered.{place-free, none-free, full-table, full-tape, no-stamp, none-fails}
-use Rattle.book.proofs.Numbered.{as-planned, left-rests}
+use Rattle.book.proofs.Numbered.{as-planned, due-planned, left-rests}
 use Rattle.book.proofs.entering.enter_against.Needs as need
 
 pub returns-in-Err : need.returns-in-Err
@@ -34,8 +34,7 @@ returns-then-not-has-room g c =
     let n = length (planned (s .reaches) (s .code) (s .first) o (c .args .stamp) (c .args .range) table .fills) in
     let same : c .due-trades-trades .result ≡ n =
     c .due-trades-trades .ensures
-    ∙ ap (λ (b : Bool). length (due (not b) (matching (s .reaches) (s .code) (s .first) (c .arriving .result) (c .args .range) table) .fills)) (c .may-rest-whole .ensures)
-    ∙ ap (λ (a : Arriving). length (due (not (may-rest (o .duration))) (matching (s .reaches) (s .code) (s .first) a (c .args .range) table) .fills)) (c .arriving .ensures) in
+    ∙ ap (λ (w : Walk). length (w .fills)) (due-planned (s .reaches) (s .code) (s .first) o (c .args .stamp) 1 (c .args .range) table (c .arriving .result) (c .may-rest-whole .result) (c .may-rest-whole .ensures) (c .arriving .ensures)) in
     let place = c .in-Ok .ensures tt in (
       full-tape (o .product) (c .args .products) (c .args .stamp) table (takes (t .space tape) (t .records tape) (o .time) n) n (c .if-o-products .left) (place-free (c .args .products) table (c .in-Ok .index) (place .0) (place .1))
           (ap (takes (t .space tape) (t .records tape) (o .time)) (sym same) ∙ sym (c .if-not-has-room .ensures tt))
@@ -54,8 +53,7 @@ returns-in-rest g c =
     let n = length (planned (s .reaches) (s .code) (s .first) o (c .args .stamp) (c .args .range) table .fills) in
     let same : c .due-trades-trades .result ≡ n =
     c .due-trades-trades .ensures
-    ∙ ap (λ (b : Bool). length (due (not b) (matching (s .reaches) (s .code) (s .first) (c .arriving .result) (c .args .range) table) .fills)) (c .may-rest-whole .ensures)
-    ∙ ap (λ (a : Arriving). length (due (not (may-rest (o .duration))) (matching (s .reaches) (s .code) (s .first) a (c .args .range) table) .fills)) (c .arriving .ensures) in
+    ∙ ap (λ (w : Walk). length (w .fills)) (due-planned (s .reaches) (s .code) (s .first) o (c .args .stamp) 1 (c .args .range) table (c .arriving .result) (c .may-rest-whole .result) (c .may-rest-whole .ensures) (c .arriving .ensures)) in
     let place = c .in-Ok .ensures tt in (
       no-stamp (o .product) (c .args .products) (c .args .stamp) table (takes (t .space tape) (t .records tape) (o .time) n) n (c .if-o-products .left) (place-free (c .args .products) table (c .in-Ok .index) (place .0) (place .1))
           (ap (takes (t .space tape) (t .records tape) (o .time)) (sym same) ∙ sym (c .if-not-has-room .ensures tt)) (search needs),
