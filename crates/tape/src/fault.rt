@@ -1,5 +1,5 @@
 // Why a tape does not take a trade.
-#[derive(Clone, Copy)]
+#[derive(Clone, Copy, PartialEq, Eq, Debug)]
 pub enum AddFault {
     // there is no room
     Full,

@@ -12,8 +12,6 @@ use tape::Tape;
 use tape::day::last_of_day;
 use tape::fault::AddFaultDebug;
 use tape::last::LastTrade;
-use tape::last::LastTradeDebug;
-use tape::last::LastTradePartialEq;
 use tape::reading::last_time;
 use tape::reading::trade_at;
 use tape::row::TradeRow;
@@ -22,20 +20,15 @@ use tape::row::TradeRowPartialEq;
 use tape::window::Sums;
 use tape::window::SumsDebug;
 use tape::window::SumsPartialEq;
-use terms::field::FieldDebug;
 use terms::mark::Mark;
-use terms::missing::Missing;
-use terms::price::Price;
 use terms::refusal::Refusal;
-use terms::refusal::RefusalDebug;
-use terms::refusal::RefusalPartialEq;
 
 #[derive(Clone, Copy, PartialEq, Eq, Debug)]
 struct Told {
     time: u32,
     sums: Sums,
-    last: Option<LastTrade>,
-    none: Option<LastTrade>,
+    last: Option<(u32, u32)>,
+    none: Option<(u32, u32)>,
     second: TradeRow,
 }
 
@@ -47,6 +40,35 @@ where
     Ok(tape.mark(n, Mark::Considered)?)
 }
 
+// The number asked for and the count, as the refusal of a missing trade tells them.
+fn missing(refusal: Refusal) -> Option<(u32, u32)> {
+    match refusal {
+        Refusal::Missing(fault) => Some((fault.number, fault.count)),
+        _ => None,
+    }
+}
+
+fn worth(last: Option<LastTrade>) -> Option<(u32, u32)> {
+    match last {
+        Some(trade) => Some((trade.number, trade.price.ticks())),
+        None => None,
+    }
+}
+
+fn lacks<T: Tape>(tape: &mut T) -> Result<(), Fail>
+where
+    Refusal: From<T::Fault>,
+{
+    let Err(refusal) = consider(tape, 0) else {
+        return Err(Fail::new("record 0 was marked"));
+    };
+    check_eq(missing(refusal), Some((0, 4)))?;
+    let Err(refusal) = trade_at(tape, 5) else {
+        return Err(Fail::new("record 5 was read"));
+    };
+    check_eq(missing(refusal), Some((5, 4)))
+}
+
 fn tell<T: Tape>(tape: &mut T) -> Result<Told, Fail>
 where
     Refusal: From<T::Fault>,
@@ -56,27 +78,17 @@ where
     tape.add(trade_of(3, 40, 200, 5)?)?;
     tape.add(trade_of(4, 99, 300, 3)?)?;
     tape.add(trade_of(3, 100, 400, 1)?)?;
-    consider(tape, 2)?;
-    check_eq(
-        consider(tape, 0),
-        Err(Refusal::Missing(Missing {
-            number: 0,
-            count: 4,
-        })),
-    )?;
-    check_eq(
-        trade_at(tape, 5).err(),
-        Some(Refusal::Missing(Missing {
-            number: 5,
-            count: 4,
-        })),
-    )?;
+    check(consider(tape, 2).is_ok())?;
+    lacks(tape)?;
+    let Ok(second) = trade_at(tape, 2) else {
+        return Err(Fail::new("no second trade"));
+    };
     Ok(Told {
         time: last_time(tape),
         sums: Sums::before(tape, 3, 100),
-        last: last_of_day(tape, 4, 1),
-        none: last_of_day(tape, 4, 2),
-        second: trade_at(tape, 2)?.row(),
+        last: worth(last_of_day(tape, 4, 1)),
+        none: worth(last_of_day(tape, 4, 2)),
+        second: second.row(),
     })
 }
 
@@ -95,13 +107,7 @@ fn both_tell_the_same() -> Result<(), Fail> {
             volume: 6,
         },
     )?;
-    check_eq(
-        a.last,
-        Some(LastTrade {
-            number: 3,
-            price: Price::new(300)?,
-        }),
-    )?;
+    check_eq(a.last, Some((3, 300)))?;
     check_eq(a.none, None)?;
     check_eq(a.second.mark, 1)
 }
