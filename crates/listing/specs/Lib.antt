@@ -1,0 +1,4 @@
+pub mod Ranges
+pub mod Entries
+pub mod Product
+pub mod Listings
