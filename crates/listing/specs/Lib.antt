@@ -2,3 +2,4 @@ pub mod Ranges
 pub mod Entries
 pub mod Product
 pub mod Listings
+pub mod Questions

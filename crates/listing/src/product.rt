@@ -1,6 +1,8 @@
 // A listed product and what the market keeps for it, as plain numbers.
 use crate::entry::Listed;
 
+pub mod reads;
+
 #[derive(Clone, Copy)]
 pub struct Product {
     pub listed: Listed,

@@ -9,6 +9,7 @@ ghost use Rattle.listing.specs.Ranges.{most-products, longest-limit};
 use crate::product::Product;
 
 pub mod makes;
+pub mod questions;
 
 
 // What is above the count is not part of the listing.
