@@ -3,3 +3,4 @@ pub mod Entries
 pub mod Product
 pub mod Listings
 pub mod Questions
+pub mod Changes

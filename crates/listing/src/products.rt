@@ -8,6 +8,7 @@ ghost use Rattle.listing.specs.Product.{entries, frenetic-fits, product-at};
 ghost use Rattle.listing.specs.Ranges.{most-products, longest-limit};
 use crate::product::Product;
 
+pub mod changes;
 pub mod makes;
 pub mod questions;
 
