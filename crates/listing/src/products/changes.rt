@@ -1,10 +1,11 @@
-// Changes of one product, which leave all others as they are.
+// Changes of one product, which leave all others as they are, and of all at once.
 ghost use mathlib.Core.Path.{_≡_};
 ghost use mathlib.Core.Bool.{true};
 ghost use Prim.Native.Nat.{_<_, _≤_};
+ghost use lib.ListN.{length};
 ghost use Rattle.terms.specs.Checks.{answered, left-by};
 ghost use Rattle.terms.specs.Ranges.{highest-price};
-ghost use Rattle.listing.specs.Changes.{contents, with-product, with-reference, with-frenetic, with-halt, widen-check};
+ghost use Rattle.listing.specs.Changes.{contents, with-product, with-reference, with-frenetic, with-halt, widen-check, without-halts, all-prices, with-settlements, settle-check};
 ghost use Rattle.listing.specs.Product.{frenetic-fits};
 ghost use Rattle.listing.specs.Questions.{product-in, listed-check};
 use crate::entry::Listed;
@@ -18,6 +19,17 @@ fn fits_frenetic(daily: u32, ticks: u32) -> bool
     ensures { λ r. ⌜ r ≡ frenetic-fits daily ticks ⌝ }
 {
     (ticks == 0) | ((daily < ticks) & (ticks <= Listed::WIDEST_DAILY))
+}
+
+fn are_prices(numbers: &[u32]) -> bool
+    ensures { λ r. ⌜ r ≡ all-prices (now (numbers .entry)) ⌝ }
+{
+    for n in numbers {
+        if *n > Price::HIGHEST {
+            return false;
+        }
+    }
+    true
 }
 
 impl Products {
@@ -79,6 +91,54 @@ impl Products {
                 ..product
             },
         );
+        Ok(())
+    }
+
+    // Every product without a halt.
+    pub fn lift(&mut self)
+        ensures { λ _. ⌜ contents (now (self .exit)) ≡ without-halts (now (self .entry)) ⌝ }
+    {
+        for n in 0..self.count {
+            let product = self.rows[n];
+            self.write(
+                n as u32,
+                Product {
+                    halted: false,
+                    ..product
+                },
+            );
+        }
+    }
+
+    fn set_references(&mut self, prices: &[u32])
+        requires whole { ⌜ length (now prices) ≡ now self .count ⌝ }
+        requires priced { ⌜ all-prices (now prices) ≡ true ⌝ }
+        ensures { λ _. ⌜ contents (now (self .exit)) ≡ with-settlements (now (self .entry)) (now (prices .entry)) ⌝ }
+    {
+        for n in 0..prices.len() {
+            let product = self.rows[n];
+            self.write(
+                n as u32,
+                Product {
+                    reference: prices[n],
+                    ..product
+                },
+            );
+        }
+    }
+
+    // A settlement price for each product, in the order of their numbers, becomes its reference price.
+    pub fn settle(&mut self, prices: &[u32]) -> Result<(), Refusal>
+        ensures answer { λ r. ⌜ r ≡ answered (settle-check (now (self .entry)) (now (prices .entry))) tt ⌝ }
+        ensures after { λ _. ⌜ contents (now (self .exit)) ≡ left-by (settle-check (now (self .entry)) (now (prices .entry))) (contents (now (self .entry))) (with-settlements (now (self .entry)) (now (prices .entry))) ⌝ }
+    {
+        if !are_prices(prices) {
+            return Err(Refusal::OutOfRange(Field::Price));
+        }
+        if prices.len() != self.count {
+            return Err(Refusal::OutOfRange(Field::Settlements));
+        }
+        self.set_references(prices);
         Ok(())
     }
 }
