@@ -1,4 +1,6 @@
 -- What is asked of the products. Assumes nothing.
+use mathlib.Core.Bool.{Bool, true, false, _||_}
+use mathlib.Core.List.{List, [], _∷_}
 use Prim.Native.Nat.{ℕ}
 use lib.Dec.{ltb}
 use Rattle.std.specs.declared.option.Option.{Option}
@@ -29,3 +31,7 @@ range-of p = tradeable-range (p .reference) (ticks-in-force p)
 -- the sweep price: from the best price offered on the opposite side, else from the reference price
 abbrev pub sweep-of : Side → Option Price → Product → Price
 sweep-of side best p = sweep-price side (anchor-price best (price-at (p .reference))) (p .listed .sweep)
+
+abbrev pub any-halted : List Product → Bool
+any-halted [] = false
+any-halted (p ∷ rest) = p .halted || any-halted rest

@@ -1,7 +1,8 @@
 // What is asked of the products.
 ghost use mathlib.Core.Path.{_≡_};
 ghost use Rattle.terms.specs.Checks.{answered};
-ghost use Rattle.listing.specs.Questions.{product-in, listed-check, range-of, sweep-of};
+ghost use Rattle.listing.specs.Listings.{products-of};
+ghost use Rattle.listing.specs.Questions.{product-in, listed-check, range-of, sweep-of, any-halted};
 use crate::product::Product;
 use crate::products::Products;
 use limits::range::Range;
@@ -40,6 +41,18 @@ impl Products {
             return Err(Refusal::NotListed(n));
         }
         Ok(self.rows[place])
+    }
+
+    // Whether any product is halted by itself.
+    pub fn is_any_halted(&self) -> bool
+        ensures { λ r. ⌜ r ≡ any-halted (products-of (now (self .entry))) ⌝ }
+    {
+        for n in 0..self.count {
+            if self.rows[n].halted {
+                return true;
+            }
+        }
+        false
     }
 
     // The lowest and the highest price at which a product may trade.
