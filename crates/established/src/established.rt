@@ -26,13 +26,7 @@ fn carried(spot: Price, own: Price, spot_reference: Price) -> Price
     Price::ZERO.raised(sum.saturating_sub(spot_reference.ticks()))
 }
 
-fn spot<T: Tape>(
-    products: &Products,
-    table: &[OrderRow],
-    tape: &T,
-    day: u32,
-    time: u32,
-) -> Price
+fn spot<T: Tape>(products: &Products, table: &[OrderRow], tape: &T, day: u32, time: u32) -> Price
 where
     Refusal: From<T::Fault>,
     ensures { λ r. ⌜ r .ticks ≡ established-spot (now (products .entry)) (moment (now (table .entry)) (T·Tape .records (now (tape .entry))) day time) ⌝ }
@@ -117,9 +111,7 @@ where
 {
     let found = products.product(product)?;
     match found.listed.kind {
-        Kind::Future => Ok(future(
-            products, table, tape, product, found, day, time,
-        )),
+        Kind::Future => Ok(future(products, table, tape, product, found, day, time)),
         Kind::Option {
             right,
             strike,
@@ -128,7 +120,15 @@ where
             Some(price) => Ok(price),
             None => {
                 let worth = option_worth(
-                    products, model, table, tape, right, strike, underlying, day, time,
+                    products,
+                    model,
+                    table,
+                    tape,
+                    right,
+                    strike,
+                    underlying,
+                    day,
+                    time,
                 );
                 Ok(corrected(table, product, worth))
             }

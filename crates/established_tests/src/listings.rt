@@ -31,10 +31,16 @@ fn the_lowest_product_at_fault() -> Result<(), Fail> {
     let call = option_on(Right::Call, 1_000_000, 0);
     check_eq(fault(&[call], 30)?, 0)?;
     check(Products::new(&[FUTURE, call], 30).is_ok())?;
-    check_eq(fault(&[FUTURE, option_on(Right::Call, 1_000_001, 0)], 30)?, 1)?;
+    check_eq(
+        fault(&[FUTURE, option_on(Right::Call, 1_000_001, 0)], 30)?,
+        1,
+    )?;
     check_eq(fault(&[FUTURE, option_on(Right::Put, 5, 1)], 30)?, 1)?;
     check_eq(fault(&[FUTURE, call, option_on(Right::Put, 5, 1)], 30)?, 2)?;
-    check_eq(fault(&[FUTURE, option_on(Right::Put, 5, 2), FUTURE], 30)?, 1)?;
+    check_eq(
+        fault(&[FUTURE, option_on(Right::Put, 5, 2), FUTURE], 30)?,
+        1,
+    )?;
     let wide = Listed {
         sweep: 1_001,
         ..FUTURE

@@ -17,7 +17,13 @@ use std::test::*;
 use tape::Tape;
 use terms::refusal::Refusal;
 
-fn put<T: Tape>(tape: &mut T, product: u32, time: u32, price: u32, quantity: u32) -> Result<(), Fail>
+fn put<T: Tape>(
+    tape: &mut T,
+    product: u32,
+    time: u32,
+    price: u32,
+    quantity: u32,
+) -> Result<(), Fail>
 where
     Refusal: From<T::Fault>,
 {
@@ -28,7 +34,13 @@ where
 }
 
 // On day 1.
-fn told<T: Tape>(products: &Products, table: &[OrderRow], tape: &T, n: u32, time: u32) -> Result<u32, Fail>
+fn told<T: Tape>(
+    products: &Products,
+    table: &[OrderRow],
+    tape: &T,
+    n: u32,
+    time: u32,
+) -> Result<u32, Fail>
 where
     Refusal: From<T::Fault>,
 {

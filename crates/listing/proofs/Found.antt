@@ -55,7 +55,7 @@ pub option-keeps : (ps : Products) (n : ℕ) (right : Right) (strike underlying 
 option-keeps ps n right strike underlying h e =
     let whole = not-false _ (ps .sound n h) in
     let kept : kind-fits (entries (ps .rows)) n (AnOption right strike underlying) ≡ true =
-      ap (kind-fits (entries (ps .rows)) n) (sym e) ∙ and-parts (ticks-fit (entries (ps .rows) n)) _ whole .1 in
+    ap (kind-fits (entries (ps .rows)) n) (sym e) ∙ and-parts (ticks-fit (entries (ps .rows) n)) _ whole .1 in
     let parts = and-parts (ltb underlying n && is-future (product-in ps underlying .listed .kind)) _ kept in
     let first = and-parts (ltb underlying n) _ (parts .0) in
     record {

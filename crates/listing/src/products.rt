@@ -12,7 +12,6 @@ pub mod changes;
 pub mod makes;
 pub mod questions;
 
-
 // What is above the count is not part of the listing.
 #[derive(Clone, Copy)]
 pub struct Products {

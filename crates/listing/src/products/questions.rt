@@ -60,10 +60,7 @@ impl Products {
         ensures { λ r. ⌜ r ≡ answered (listed-check (now (self .entry)) n) (range-of (product-in (now (self .entry)) n)) ⌝ }
     {
         let product = self.product(n)?;
-        Ok(Range::around(
-            product.reference_price(),
-            product.daily_ticks(),
-        ))
+        Ok(Range::around(product.reference_price(), product.daily_ticks()))
     }
 
     // How far an arriving order of a side may reach, with the best price offered on the opposite side of the product's book.

@@ -14,7 +14,7 @@ returns-in-Future g c =
     let tells = g .M·PricingModel .tells (c .args .model .now) in
     let found = listed-if ps n _ _ (c .in-Continue-found .ensures tt) in
     let ticks : c .future .result .ticks ≡ established ps m tells n =
-      c .future .ensures ∙ established-is ps m tells n _ _ (found .1) (c .in-Future .is) in
+    c .future .ensures ∙ established-is ps m tells n _ _ (found .1) (c .in-Future .is) in
     record { answer = answer-is ps n _ _ (found .0) ticks; whole = λ _. omega arith }
 
 pub returns-in-Some : need.returns-in-Some
@@ -25,8 +25,8 @@ returns-in-Some g c =
     let tells = g .M·PricingModel .tells (c .args .model .now) in
     let found = listed-if ps n _ _ (c .in-Continue-found .ensures tt) in
     let ticks : c .in-Some .price .ticks ≡ established ps m tells n =
-      from-trades m n _ (product-in ps n) (found .1) _ _ (c .in-Some .ensures tt)
-      ∙ established-is ps m tells n _ _ (found .1) (c .in-Option .is) in
+    from-trades m n _ (product-in ps n) (found .1) _ _ (c .in-Some .ensures tt)
+    ∙ established-is ps m tells n _ _ (found .1) (c .in-Option .is) in
     record { answer = answer-is ps n _ _ (found .0) ticks; whole = λ _. omega arith }
 
 pub returns-in-None : need.returns-in-None
@@ -37,6 +37,6 @@ returns-in-None g c =
     let tells = g .M·PricingModel .tells (c .args .model .now) in
     let found = listed-if ps n _ _ (c .in-Continue-found .ensures tt) in
     let ticks : c .corrected .result .ticks ≡ established ps m tells n =
-      from-worth m n _ (product-in ps n) (found .1) _ _ _ (c .in-None .ensures tt) (c .option-worth-worth .ensures) (c .corrected .ensures)
-      ∙ established-is ps m tells n _ _ (found .1) (c .in-Option .is) in
+    from-worth m n _ (product-in ps n) (found .1) _ _ _ (c .in-None .ensures tt) (c .option-worth-worth .ensures) (c .corrected .ensures)
+    ∙ established-is ps m tells n _ _ (found .1) (c .in-Option .is) in
     record { answer = answer-is ps n _ _ (found .0) ticks; whole = λ _. omega arith }

@@ -24,9 +24,9 @@ returns-in-None g c =
     let spot-reference = reference-found ps 0 _ _ (ps .some) (c .spot-in-None .ensures) (c .reference-price-spot-reference .ensures) in
     let reference = reference-found ps n _ _ (c .pre .listed) (c .pre .same) (c .reference-price .ensures) in
     let worth : c .carried .result .ticks ≡ month-worth ps m n =
-      c .carried .ensures
-      ∙ ap (λ (x : ℕ). carried x (c .reference-price .result .ticks) (c .reference-price-spot-reference .result .ticks)) (c .spot-spot .ensures)
-      ∙ ap (λ (x : ℕ). carried (established-spot ps m) x (c .reference-price-spot-reference .result .ticks)) reference
-      ∙ ap (carried (established-spot ps m) (product-in ps n .reference)) spot-reference in
+    c .carried .ensures
+    ∙ ap (λ (x : ℕ). carried x (c .reference-price .result .ticks) (c .reference-price-spot-reference .result .ticks)) (c .spot-spot .ensures)
+    ∙ ap (λ (x : ℕ). carried (established-spot ps m) x (c .reference-price-spot-reference .result .ticks)) reference
+    ∙ ap (carried (established-spot ps m) (product-in ps n .reference)) spot-reference in
     from-worth m n _ (product-in ps n) (c .pre .same) _ _ _ (c .in-None .ensures tt) worth (c .corrected .ensures)
     ∙ sym (future-month ps m n (c .if-n-eq0 .left))

@@ -19,9 +19,9 @@ loop-n-again c =
     let listing = c .args .listing .now in (
       below-more _ _ (c .loop-n .inv .0) (sym (c .if-is-at-fault .ensures tt)),
       take-more-set (c .loop-n .rows) n _ (omega arith)
-      ∙ ap (λ l. l ++ c .fresh .result ∷ []) (c .loop-n .inv .1)
-      ∙ ap (λ (p : Product). map fresh (take n listing) ++ p ∷ []) (c .fresh .ensures)
-      ∙ sym (map-more fresh listing n unlisted (c .loop-n-test .taken)),
+          ∙ ap (λ l. l ++ c .fresh .result ∷ []) (c .loop-n .inv .1)
+          ∙ ap (λ (p : Product). map fresh (take n listing) ++ p ∷ []) (c .fresh .ensures)
+          ∙ sym (map-more fresh listing n unlisted (c .loop-n-test .taken)),
       length-set (c .loop-n .rows) n _ ∙ c .loop-n .inv .2,
     )
 
@@ -29,7 +29,7 @@ pub ghost-result : need.ghost-result
 ghost-result c =
     let listing = c .args .listing .now in
     let made : (k : ℕ) → k < length listing → product-at (c .loop-n .rows) k ≡ fresh (listed-at listing k) =
-      λ k h. made-at (c .loop-n .rows) listing (c .loop-n .n) k (omega arith) (c .loop-n .inv .1) (omega arith) in (
+    λ k h. made-at (c .loop-n .rows) listing (c .loop-n .n) k (omega arith) (c .loop-n .inv .1) (omega arith) in (
       omega arith,
       (
         omega arith,
