@@ -1,0 +1,5 @@
+pub mod Averages
+pub mod Corrections
+pub mod Days
+pub mod Established
+pub mod Verdicts

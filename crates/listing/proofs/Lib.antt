@@ -1,0 +1,5 @@
+pub mod Faults
+pub mod Found
+pub mod Written
+pub mod All
+pub mod Same
