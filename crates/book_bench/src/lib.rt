@@ -31,14 +31,21 @@ fn arriving(limit: u32, lots: u32) -> Option<Arriving> {
 
 // How much was traded, and in how many trades; 0 where the order or the tape does not serve.
 #[unsafe(no_mangle)]
-pub extern "C" fn book_bench_run(table: &mut [OrderRow], bytes: &mut [u8], limit: u32, lots: u32) -> u64 {
+pub extern "C" fn book_bench_run(
+    table: &mut [OrderRow],
+    bytes: &mut [u8],
+    limit: u32,
+    lots: u32,
+) -> u64 {
     let Some(a) = arriving(limit, lots) else {
         return 0;
     };
     let mut tape = ByteTape::new(bytes);
     let range = Range::around(Price::ZERO, Price::HIGHEST);
     match sweep::<Sells, ByteTape>(table, &mut tape, a, range, false) {
-        Ok(swept) => u64::from(swept.traded).wrapping_mul(1_000_000).wrapping_add(u64::from(swept.trades)),
+        Ok(swept) => u64::from(swept.traded)
+            .wrapping_mul(1_000_000)
+            .wrapping_add(u64::from(swept.trades)),
         Err(_) => 0,
     }
 }
