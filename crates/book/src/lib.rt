@@ -1,4 +1,6 @@
 // Matching: an arriving order goes down the opposite queue, inside two price ends.
+#![tactic(auto)]
+
 pub mod arriving;
 pub mod entering;
 pub mod incoming;

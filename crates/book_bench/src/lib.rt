@@ -1,4 +1,6 @@
 // What bench/ times: a buy that sweeps the sells of a lent table.
+#![tactic(auto)]
+
 use book::arriving::Arriving;
 use book::sweep::sweep;
 use byte_tape::ByteTape;

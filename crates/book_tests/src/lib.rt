@@ -1,4 +1,6 @@
 // Worked examples of matching, and the edges of tables, run as tests.
+#![tactic(auto)]
+
 #[cfg(test)]
 mod figures;
 #[cfg(test)]

@@ -1,3 +1,5 @@
 // The unit's command line: a line of text to a command, and a command to its answer.
+#![tactic(auto)]
+
 pub mod command;
 pub mod parse;

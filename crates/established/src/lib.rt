@@ -1,4 +1,6 @@
 // The established market price of a product, and how far from it a trade may be taken back.
+#![tactic(auto)]
+
 pub mod established;
 mod steps;
 pub mod verdict;

@@ -1,4 +1,6 @@
 // Worked figures of the listing, the established market price and the verdict.
+#![tactic(auto)]
+
 #[cfg(test)]
 mod listings;
 #[cfg(test)]

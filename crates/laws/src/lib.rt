@@ -1,4 +1,6 @@
 // Every history of calls keeps the laws of the market.
+#![tactic(auto)]
+
 ghost use Rattle.laws.specs.Histories.{CanCancel};
 ghost use Rattle.laws.specs.Laws.{LawsHold};
 

@@ -1,4 +1,6 @@
 // The order table: resting orders in lent memory, searched by price-time priority.
+#![tactic(auto)]
+
 pub mod checked;
 pub mod close;
 pub mod laws;

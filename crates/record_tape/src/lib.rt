@@ -1,4 +1,6 @@
 // A tape over lent records, of which the first are in use.
+#![tactic(auto)]
+
 ghost use Rattle.std.specs.Prelude.{◌≤◌, length, slice_index_or};
 ghost use Rattle.tape.specs.Placed.{FairPlaces, RisingPlaces};
 ghost use Rattle.tape.specs.Ranges.{most_records};

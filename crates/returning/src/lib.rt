@@ -1,4 +1,6 @@
 // An amended order with a new price comes back to its book: it trades, and what is left of it rests again where it stood.
+#![tactic(auto)]
+
 ghost use Rattle.std.specs.Prelude.{◌≡◌, ◌≤◌, slice_set};
 ghost use Rattle.orders.specs.Orders.{row_of};
 ghost use Rattle.orders.specs.Rows.{free};

@@ -1,4 +1,6 @@
 // The tape of trades, as what uses it knows it.
+#![tactic(auto)]
+
 ghost use Rattle.std.specs.Prelude.{◌≡◌, ℕ, ◌+◌, ◌≤◌, List, length};
 ghost use Rattle.terms.specs.declared.missing.Missing.{Missing as Lacks};
 ghost use Rattle.tape.specs.Ranges.{most_records};

@@ -1,4 +1,6 @@
 // What bench/ times: records put on a tape over lent bytes, and read again.
+#![tactic(auto)]
+
 ghost use Rattle.std.specs.Prelude.{◌+◌, ◌*◌, ◌≤◌, length};
 
 use byte_tape::ByteTape;

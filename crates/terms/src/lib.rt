@@ -1,4 +1,6 @@
 // The words of the market: checked numbers, the enums that calls take and answer, and every refusal.
+#![tactic(auto)]
+
 pub mod determination;
 pub mod duration;
 pub mod field;

@@ -1,4 +1,6 @@
 // The unit: reads commands from standard input, one to a line, and answers each.
+#![tactic(auto)]
+
 mod show;
 
 use crate::show::{Deal, Hex, Maybe, Mistake, Refused};

@@ -10,10 +10,10 @@ use Rattle.orders.proofs.Found.{first_none, counted_skip, counted_here}
 use Rattle.orders.proofs.Heads.{length_counted}
 use Rattle.orders.proofs.questions.find.Goals as goal
 
-pub loop-i-preserved-in-default : goal.loop-i-preserved-in-default
-loop-i-preserved-in-default c =
+pub loop-i-preserved-in_default : goal.loop-i-preserved-in_default
+loop-i-preserved-in_default c =
     let table = c.args.table.now in
-    counted_skip table c.loop-i.i (omega (arith, length_counted table, c.span-i-end.ensures)) (has_number c.args.products c.args.number) (and_left _ _ c.in-default.ensures) ∙ c.loop-i.invariant
+    counted_skip table c.loop-i.i (omega (arith, length_counted table, c.span-i-end.ensures)) (has_number c.args.products c.args.number) (and_left _ _ c.in_default.ensures) ∙ c.loop-i.invariant
 
 -- the number at a place that reads as this order
 number_at : (o : Order) (r : OrderRow) → row_of o ≡ r → r.number ≡ o.number

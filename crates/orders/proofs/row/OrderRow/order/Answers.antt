@@ -2,25 +2,25 @@ use Rattle.std.proofs.Common.{rules}
 use Rattle.orders.specs.Rows.{fair}
 use Rattle.orders.proofs.row.OrderRow.order.Goals as goal
 
-pub returns-in-err-side : goal.returns-in-err-side
+pub returns-in_err-side : goal.returns-in_err-side
 unfolding fair
-returns-in-err-side c = search rules
+returns-in_err-side c = search rules
 
-pub returns-in-err-duration : goal.returns-in-err-duration
+pub returns-in_err-duration : goal.returns-in_err-duration
 unfolding fair
-returns-in-err-duration c = search rules
+returns-in_err-duration c = search rules
 
-pub returns-in-err-price : goal.returns-in-err-price
+pub returns-in_err-price : goal.returns-in_err-price
 unfolding fair
-returns-in-err-price c = search rules
+returns-in_err-price c = search rules
 
-pub returns-in-err-rest : goal.returns-in-err-rest
+pub returns-in_err-rest : goal.returns-in_err-rest
 unfolding fair
-returns-in-err-rest c = search rules
+returns-in_err-rest c = search rules
 
-pub returns-in-err-participant : goal.returns-in-err-participant
+pub returns-in_err-participant : goal.returns-in_err-participant
 unfolding fair
-returns-in-err-participant c = search rules
+returns-in_err-participant c = search rules
 
 pub returns-then-self-lt1 : goal.returns-then-self-lt1
 unfolding fair

@@ -36,15 +36,15 @@ more-volume g c =
     let e : c.from-lots.result ≡ trade.quantity.lots = cc in
     rw e (back_taken (λ r. r.quantity) c.args.product c.args.time rows c.loop-i.i trade c.loop-i-test.true (omega arith) c.known-trade.ensures c.if-trade-product.true (omega arith))
 
-pub overflow-add-turnover : goal.overflow-add-turnover
-overflow-add-turnover g c =
+pub overflow_add-turnover : goal.overflow_add-turnover
+overflow_add-turnover g c =
     let tape = c.args.tape.now in
     let rows = g.T.Tape.records tape in
     let few : length rows ≤ most_records = omega (arith, g.T.Tape.bounded tape) in
     omega (arith, more-turnover g c, turnover_bound c.args.product c.args.time rows (g.T.Tape.fair tape) few)
 
-pub overflow-add-volume : goal.overflow-add-volume
-overflow-add-volume g c =
+pub overflow_add-volume : goal.overflow_add-volume
+overflow_add-volume g c =
     let tape = c.args.tape.now in
     let rows = g.T.Tape.records tape in
     let few : length rows ≤ most_records = omega (arith, g.T.Tape.bounded tape) in
