@@ -1,5 +1,5 @@
 -- Whether an entry is at fault depends on it and on those below. Assumes nothing.
-use Rattle.std.proofs.Common.{◌≡◌, ℕ, ◌<◌, ◌≤◌, Bool, true, false, not, ◌&&◌, ltb, leb, List, map, length, get_or, take, sym, refl, ap, ◌∙◌, arith, get_or-take}
+use Rattle.std.proofs.Common.{◌≡◌, ℕ, ◌<◌, ◌≤◌, Bool, true, false, not, ◌&&◌, ltb, leb, List, map, length, take, sym, refl, ap, ◌∙◌, arith, get_or-take}
 use Rattle.std.proofs.lemmas.List.{get_or-map, length-take}
 use Rattle.std.proofs.lemmas.Bool.{ltb-true}
 use Rattle.terms.specs.Ranges.{highest_price}

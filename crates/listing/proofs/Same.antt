@@ -4,7 +4,7 @@ use mathlib.Core.Path.{PathP, to_path_p}
 use mathlib.Core.Bool.{Bool-set}
 use native.Mathlib.Bridge.{le_prop}
 use Rattle.terms.specs.Ranges.{highest_price}
-use Rattle.listing.specs.Changes.{Contents, contents}
+use Rattle.listing.specs.Changes.{contents}
 use Rattle.listing.specs.Entries.{at_fault}
 use Rattle.listing.specs.Product.{entries, frenetic_fits, product_at}
 use Rattle.listing.specs.Ranges.{most_products, longest_limit}

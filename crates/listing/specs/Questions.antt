@@ -1,5 +1,5 @@
 -- What is asked of the products. Assumes nothing.
-use Rattle.std.specs.Prelude.{ℕ, Bool, true, false, ◌||◌, List, [], ◌∷◌, Option, nat_lt}
+use Rattle.std.specs.Prelude.{ℕ, Bool, false, ◌||◌, List, [], ◌∷◌, Option, nat_lt}
 use Rattle.limits.specs.Ranges.{tradeable_range}
 use Rattle.limits.specs.Sweeps.{anchor_price, sweep_price}
 use Rattle.limits.specs.declared.range.Range.{Range}

@@ -3,7 +3,7 @@ use Rattle.std.specs.Prelude.{◌≡◌, ℕ, zero, suc, ◌-◌, ◌<◌, ◌�
 use Rattle.std.proofs.Common.{sym, ap, subst, ◌∙◌, arith, get_or-take}
 use Rattle.std.proofs.lemmas.List.{length-take}
 use Rattle.std.proofs.lemmas.Int.{ints}
-use Rattle.std.proofs.lemmas.List.Elements.{All-filter, All-from_get_or}
+use Rattle.std.proofs.lemmas.List.Elements.{All-head, All-tail, All-filter, All-from_get_or}
 use Rattle.std.proofs.lemmas.Bool.{or_parts, and_parts, not-false, leb-true, lt-ltb, cond_both}
 use Rattle.terms.specs.Ranges.{highest_price}
 use Rattle.pricing.specs.Ladders.{at_or_below, higher, highest, price_or_nothing, ladder_price}
@@ -62,11 +62,11 @@ priced_rung xs k e = leb-true _ _ (and_parts _ _ (not-false _ (or_parts _ _ e).0
 
 highest_in : (P : Rung → Type 0) (rs : List Rung) → All P rs → IfSome (highest rs) P
 highest_in P [] a = tt
-highest_in P (r ∷ rs) a = go (highest rs) (highest_in P rs a.1)
+highest_in P (r ∷ rs) a = go (highest rs) (highest_in P rs (All-tail P r rs a))
   where
     go : (o : Option Rung) → IfSome o P → P (higher r o)
-    go None h = a.0
-    go (Some s) h = cond_both (int_le r.level s.level) s r P (λ e. h) (λ e. a.0)
+    go None h = All-head P r rs a
+    go (Some s) h = cond_both (int_le r.level s.level) s r P (λ e. h) (λ e. All-head P r rs a)
 
 module _ (rungs : List Rung) (n : ℕ) (sound : (k : ℕ) → k < n → at_fault rungs k ≡ false) (m : ℤ) where
   in_front : (k : ℕ) → k < n → rung_at (take n rungs) k ≡ rung_at rungs k

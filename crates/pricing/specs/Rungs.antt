@@ -1,5 +1,5 @@
 -- When a rung is at fault. Assumes nothing.
-use Rattle.std.specs.Prelude.{ℕ, ◌-◌, Bool, not, ◌&&◌, ◌||◌, List, ℤ, pos, negsuc, int_le, nat_le, nat_lt, slice_index_or}
+use Rattle.std.specs.Prelude.{ℕ, ◌-◌, Bool, not, ◌&&◌, ◌||◌, List, pos, negsuc, int_le, nat_le, nat_lt, slice_index_or}
 use Rattle.terms.specs.Ranges.{highest_price}
 use Rattle.pricing.specs.declared.rung.Rung.{Rung}
 

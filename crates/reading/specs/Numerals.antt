@@ -1,5 +1,5 @@
 -- What number a word writes. Assumes nothing.
-use Rattle.std.specs.Prelude.{ℕ, ◌+◌, ◌-◌, ◌*◌, ◌^◌, Bool, cond, not, ◌&&◌, List, [], ◌∷◌, length, Some, None, fold, Option, ◌==◌, nat_lt}
+use Rattle.std.specs.Prelude.{ℕ, ◌+◌, ◌-◌, ◌*◌, ◌^◌, cond, not, ◌&&◌, List, length, Some, None, fold, Option, ◌==◌, nat_lt}
 use Rattle.std.specs.Str.{all_ascii_digits}
 
 -- one digit more, after those that write n

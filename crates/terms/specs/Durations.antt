@@ -1,5 +1,5 @@
 -- Which durations let an order rest. Assumes nothing.
-use Rattle.std.specs.Prelude.{ℕ, Bool, true, false}
+use Rattle.std.specs.Prelude.{Bool, true, false}
 use Rattle.terms.specs.declared.duration.Duration.{Duration}
 use Rattle.terms.specs.declared.duration.Duration.TheVariants.{Now, Session, Day, Until, UntilCancelled}
 

@@ -1,12 +1,12 @@
-use Rattle.std.proofs.Common.{◌≡◌, ℕ, ◌+◌, ◌-◌, ◌^◌, ◌<◌, true, length, get_or, take, Some, sym, ap, ◌∙◌, subst, arith, rules}
+use Rattle.std.proofs.Common.{◌≡◌, ◌+◌, take, Some, sym, ap, ◌∙◌, arith, rules}
 use Rattle.std.proofs.lemmas.List.{take_all}
 use Rattle.std.proofs.lemmas.List.Sums.{fold_more}
-use Rattle.reading.specs.Numerals.{digit_more, decimal_value}
+use Rattle.reading.specs.Numerals.{digit_more}
 use Rattle.reading.proofs.Digits.{digits_more, none_undigit, none_large, some_number}
 use Rattle.reading.proofs.number.number.Goals as goal
 
-pub returns-then-not-is-ascii-digit : goal.returns-then-not-is-ascii-digit
-returns-then-not-is-ascii-digit c = sym (none_undigit c.args.word.now c.loop-digit.digit-index (search rules) (search rules))
+pub returns-then-not-is_ascii_digit : goal.returns-then-not-is_ascii_digit
+returns-then-not-is_ascii_digit c = sym (none_undigit c.args.word.now c.loop-digit.digit-index (search rules) (search rules))
 
 pub returns-then-value-from : goal.returns-then-value-from
 returns-then-value-from c =

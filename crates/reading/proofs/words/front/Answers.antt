@@ -1,10 +1,10 @@
-use Rattle.std.proofs.Common.{sym, arith, rules}
+use Rattle.std.proofs.Common.{arith, rules}
 use Rattle.std.proofs.lemmas.List.Sums.{prefix_len-drop_yes, prefix_len-drop_no, prefix_len-drop_all}
 use Rattle.reading.specs.Words.{holds}
 use Rattle.reading.proofs.words.front.Goals as goal
 
-pub returns-then-not-is-of : goal.returns-then-not-is-of
-returns-then-not-is-of c =
+pub returns-then-not-is_of : goal.returns-then-not-is_of
+returns-then-not-is_of c =
     let stop = prefix_len-drop_no (holds c.args.class) c.args.text.now c.loop-i.i 0 (search rules) (search rules) in
     record { value = omega (arith, stop, c.loop-i.invariant); within = omega arith }
 

@@ -1,9 +1,8 @@
-use Rattle.std.proofs.Common.{◌≡◌, ℕ, ◌<◌, ◌≤◌, true, [], ◌∷◌, ◌++◌, map, length, take, sym, refl, ap, ◌∙◌, arith, length-set, below_more}
+use Rattle.std.proofs.Common.{◌≡◌, ℕ, ◌<◌, [], ◌∷◌, ◌++◌, map, length, take, sym, refl, ap, ◌∙◌, arith, length-set, below_more}
 use Rattle.std.proofs.lemmas.List.{map_more, take_more_set, take_all}
 use Rattle.listing.specs.Entries.{unlisted, listed_at}
 use Rattle.listing.specs.Product.{fresh, product_at, frenetic_fits}
 use Rattle.listing.specs.declared.product.Product.{Product}
-use Rattle.terms.specs.Ranges.{highest_price}
 use Rattle.listing.proofs.Faults.{made_at, made_fault}
 use Rattle.listing.proofs.products.Products.new.Goals as goal
 
@@ -11,7 +10,7 @@ pub loop-n-preserved : goal.loop-n-preserved
 loop-n-preserved c =
     let n = c.loop-n.n in
     let listing = c.args.listing.now in (
-      below_more _ _ c.loop-n.invariant.0 (sym c.if-is-at-fault.ensures),
+      below_more _ _ c.loop-n.invariant.0 (sym c.if-is_at_fault.ensures),
       take_more_set c.loop-n.rows n _ (omega arith)
           ∙ ap (λ l. l ++ c.fresh.result ∷ []) c.loop-n.invariant.1
           ∙ ap (λ (p : Product). map fresh (take n listing) ++ p ∷ []) c.fresh.ensures
@@ -19,31 +18,22 @@ loop-n-preserved c =
       length-set c.loop-n.rows n _ ∙ c.loop-n.invariant.2,
     )
 
-pub invariant-of-result : goal.invariant-of-result
-invariant-of-result c =
+pub invariant_of-result : goal.invariant_of-result
+invariant_of-result c =
     let listing = c.args.listing.now in
     let made : (k : ℕ) → k < length listing → product_at c.loop-n.rows k ≡ fresh (listed_at listing k) =
-    λ k h. made_at c.loop-n.rows listing c.loop-n.n k (omega arith) c.loop-n.invariant.1 (omega arith) in (
-      omega arith,
-      (
-        omega arith,
-        (
-          omega arith,
-          (
-            omega arith,
-            (
-              λ k h.
-                  let below : k < c.loop-n.n = omega arith in
-                  made_fault c.loop-n.rows listing c.loop-n.n k (omega arith) c.loop-n.invariant.1 below ∙ c.loop-n.invariant.0 k below,
-              (
-                λ k h. rw (made k h) (omega arith),
-                (λ k h. ap (λ (p : Product). frenetic_fits p.listed.daily p.frenetic) (made k h), tt),
-              ),
-            ),
-          ),
-        ),
-      ),
-    )
+    λ k h. made_at c.loop-n.rows listing c.loop-n.n k (omega arith) c.loop-n.invariant.1 (omega arith) in
+    record {
+      some = omega arith;
+      few = omega arith;
+      lasting = omega arith;
+      brief = omega arith;
+      sound = λ k h.
+          let below : k < c.loop-n.n = omega arith in
+          made_fault c.loop-n.rows listing c.loop-n.n k (omega arith) c.loop-n.invariant.1 below ∙ c.loop-n.invariant.0 k below;
+      priced = λ k h. rw (made k h) (omega arith);
+      widened = λ k h. ap (λ (p : Product). frenetic_fits p.listed.daily p.frenetic) (made k h);
+    }
 
 pub returns : goal.returns
 returns c =

@@ -10,8 +10,8 @@ returns c =
     let ps = c.args.self.now in
     let n = c.args.n in
     let p = product_in ps n in
-    let found = listed_if ps n _ _ c.in-ok-product.ensures in
-    let reference = reference_found ps n _ _ found.0 found.1 c.reference-price.ensures in
-    let daily : c.daily-ticks.result ≡ ticks_in_force p = c.daily-ticks.ensures ∙ ap ticks_in_force found.1 in
-    ap Ok (c.around.ensures ∙ ap (λ (t : ℕ). tradeable_range t c.daily-ticks.result) reference ∙ ap (tradeable_range p.reference) daily)
+    let found = listed_if ps n _ _ c.in_ok-product.ensures in
+    let reference = reference_found ps n _ _ found.0 found.1 c.reference_price.ensures in
+    let daily : c.daily_ticks.result ≡ ticks_in_force p = c.daily_ticks.ensures ∙ ap ticks_in_force found.1 in
+    ap Ok (c.around.ensures ∙ ap (λ (t : ℕ). tradeable_range t c.daily_ticks.result) reference ∙ ap (tradeable_range p.reference) daily)
     ∙ sym (listed_answers ps n (range_of p) found.0)

@@ -7,30 +7,26 @@ use Rattle.pricing.proofs.ladder.Ladder.new.Goals as goal
 pub loop-k-init : goal.loop-k-init
 loop-k-init c = (λ j h. absurd (let z : ⊥ = omega arith in z), refl, refl)
 
-pub returns-then-is-at-fault : goal.returns-then-is-at-fault
-returns-then-is-at-fault c =
-    (c.if-count-lt1.false, c.if-count-gt-MOST.false, c.loop-k-test.true, sym c.if-is-at-fault.ensures, c.loop-k.invariant.0)
+pub returns-then-is_at_fault : goal.returns-then-is_at_fault
+returns-then-is_at_fault c =
+    (c.if-count-lt1.false, c.if-count-gt-MOST.false, c.loop-k-test.true, sym c.if-is_at_fault.ensures, c.loop-k.invariant.0)
 
 pub loop-k-preserved : goal.loop-k-preserved
 loop-k-preserved c = (
-  below_more _ _ c.loop-k.invariant.0 (sym c.if-is-at-fault.ensures),
-  take_more_set c.loop-k.own_val c.loop-k.k _ (omega arith) ∙ rw c.loop-k.invariant.1 (sym (take_more c.args.rungs.now c.loop-k.k no_rung c.loop-k-test.true)),
-  length-set c.loop-k.own_val c.loop-k.k _ ∙ c.loop-k.invariant.2,
+  below_more _ _ c.loop-k.invariant.0 (sym c.if-is_at_fault.ensures),
+  take_more_set c.loop-k.own c.loop-k.k _ (omega arith) ∙ rw c.loop-k.invariant.1 (sym (take_more c.args.rungs.now c.loop-k.k no_rung c.loop-k-test.true)),
+  length-set c.loop-k.own c.loop-k.k _ ∙ c.loop-k.invariant.2,
 )
 
-pub invariant-of-result : goal.invariant-of-result
-invariant-of-result c = (
-  c.if-count-lt1.false,
-  (
-    c.if-count-gt-MOST.false,
-    (
-      λ k h.
+pub invariant_of-result : goal.invariant_of-result
+invariant_of-result c =
+    record {
+      some = c.if-count-lt1.false;
+      few = c.if-count-gt-MOST.false;
+      sound = λ k h.
           let below : k < c.loop-k.k = omega arith in
-          fault_same c.loop-k.own_val c.args.rungs.now c.loop-k.k k c.loop-k.invariant.1 below ∙ c.loop-k.invariant.0 k below,
-      tt,
-    ),
-  ),
-)
+          fault_same c.loop-k.own c.args.rungs.now c.loop-k.k k c.loop-k.invariant.1 below ∙ c.loop-k.invariant.0 k below;
+    }
 
 pub returns : goal.returns
 returns c =
@@ -39,5 +35,5 @@ returns c =
       c.if-count-lt1.false,
       c.if-count-gt-MOST.false,
       (λ k h. c.loop-k.invariant.0 k (omega arith)),
-      ap (λ (n : ℕ). take n c.loop-k.own_val) whole ∙ c.loop-k.invariant.1 ∙ take_all c.loop-k.k rungs (omega arith),
+      ap (λ (n : ℕ). take n c.loop-k.own) whole ∙ c.loop-k.invariant.1 ∙ take_all c.loop-k.k rungs (omega arith),
     )

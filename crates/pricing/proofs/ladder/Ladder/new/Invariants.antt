@@ -3,4 +3,4 @@ use Rattle.pricing.specs.Rungs.{at_fault}
 use Rattle.pricing.proofs.ladder.Ladder.new.Given as goal
 
 abbrev pub invariant-loop-k : goal.invariant-loop-k
-invariant-loop-k l = ((j : ℕ) → j < l.k → at_fault l.rungs j ≡ false) × (take l.k l.own_val ≡ take l.k l.rungs) × (length l.own_val ≡ 32)
+invariant-loop-k l = ((j : ℕ) → j < l.k → at_fault l.rungs j ≡ false) × (take l.k l.own ≡ take l.k l.rungs) × (length l.own ≡ 32)

@@ -1,5 +1,5 @@
 use Rattle.std.proofs.Common.{◌-◌, sym, arith, rules}
-use Rattle.std.proofs.lemmas.Int.{to_z-of_z, ints}
+use Rattle.std.proofs.lemmas.Int.{to_z-of_z}
 use Rattle.pricing.specs.Climbs.{top_rung, no_top}
 use Rattle.pricing.proofs.ladder.Ladder.rung_at.Goals as goal
 
