@@ -7,8 +7,9 @@ use Rattle.book.specs.Walks.{Fill, Walk, filled, trade_by, matching}
 use Rattle.book.specs.declared.arriving.Arriving.{Arriving}
 use Rattle.book.specs.declared.outcome.Swept.{Swept}
 use Rattle.limits.specs.declared.range.Range.{Range}
-use Rattle.listing.specs.Contents.{Contents}
-use Rattle.listing.specs.Questions.{product_in, range_of}
+use Rattle.listing.specs.Changes.{Contents}
+use Rattle.listing.specs.Questions.{range_of}
+use Rattle.rules.specs.Held.{product_in}
 use Rattle.orders.specs.Orders.{row_of}
 use Rattle.orders.specs.Queue.{Slot, slot_of, higher_first, lower_first}
 use Rattle.orders.specs.Rows.{free, side_code, duration_code, duration_date}

@@ -1,9 +1,10 @@
 // An order is amended.
 ghost use Rattle.std.specs.Prelude.{◌≡◌, ◌+◌, ◌<◌, ◌≤◌, Bool, not, ◌&&◌, ◌||◌, if◌then◌else◌, nat_lt};
 ghost use Rattle.book.specs.Entries.{last_stamp};
-ghost use Rattle.established.specs.Established.{moment, established as established_price};
-ghost use Rattle.listing.specs.Contents.{contents};
-ghost use Rattle.listing.specs.Questions.{product_in};
+ghost use Rattle.established.specs.Established.{moment};
+ghost use Rattle.rules.specs.Worth.{established as established_price};
+ghost use Rattle.listing.specs.Changes.{contents};
+ghost use Rattle.rules.specs.Held.{product_in};
 ghost use Rattle.orders.specs.Orders.{row_of};
 ghost use Rattle.returning.specs.Returns.{come_back_row};
 ghost use Rattle.rules.specs.Calls.{amend as amending, received, told};

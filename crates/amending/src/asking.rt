@@ -1,7 +1,8 @@
 // What stops an amendment before its trades and its stamp.
 ghost use Rattle.std.specs.Prelude.{◌≡◌, ◌<◌, true, false, ◌++◌};
-ghost use Rattle.listing.specs.Contents.{contents};
-ghost use Rattle.listing.specs.Questions.{product_in, sweep_of};
+ghost use Rattle.listing.specs.Changes.{contents};
+ghost use Rattle.listing.specs.Questions.{sweep_of};
+ghost use Rattle.rules.specs.Held.{product_in};
 ghost use Rattle.rules.specs.Refusing.{limit_held, amended_limit};
 ghost use Rattle.rules.specs.Worlds.{best_facing};
 ghost use Rattle.terms.specs.Checks.{answered, earliest};

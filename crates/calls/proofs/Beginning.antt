@@ -4,11 +4,11 @@ use Rattle.std.proofs.lemmas.List.{get_or-take}
 use Rattle.laws.proofs.All.{all_laws}
 use Rattle.laws.specs.Histories.{Fresh, NewProducts, Reached, made}
 use Rattle.laws.specs.Words.{Each}
-use Rattle.listing.specs.Contents.{contents}
+use Rattle.listing.specs.Changes.{contents}
 use Rattle.listing.specs.Entries.{unlisted, listed_at}
-use Rattle.listing.specs.Listings.{Lists, products_of}
+use Rattle.listing.specs.Listings.{Lists}
+use Rattle.rules.specs.Held.{products_of, product_in}
 use Rattle.listing.specs.Product.{fresh, product_at}
-use Rattle.listing.specs.Questions.{product_in}
 use Rattle.listing.specs.declared.entry.Listed.{Listed}
 use Rattle.listing.specs.declared.product.Product.{Product}
 use Rattle.listing.specs.declared.products.Products.{Products}

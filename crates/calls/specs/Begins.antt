@@ -2,7 +2,7 @@
 use Rattle.std.specs.Prelude.{ℕ, List, [], Ok, Err, Result}
 use Rattle.laws.specs.Histories.{Reached}
 use Rattle.laws.specs.Laws.{Laws}
-use Rattle.listing.specs.Contents.{contents}
+use Rattle.listing.specs.Changes.{contents}
 use Rattle.market.specs.declared.market.Market.{Market}
 use Rattle.orders.specs.declared.row.OrderRow.{OrderRow}
 use Rattle.rules.specs.Worlds.{World, world}

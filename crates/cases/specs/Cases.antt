@@ -1,6 +1,6 @@
 -- What a case is refused for. Assumes nothing.
 use Rattle.std.specs.Prelude.{◌≡◌, ℕ, List, [], ◌∷◌, Ok, Err, Option, Result}
-use Rattle.listing.specs.Contents.{Contents}
+use Rattle.listing.specs.Changes.{Contents}
 use Rattle.rules.specs.Calls.{Answer, request, determine, done}
 use Rattle.rules.specs.Refusing.{side_check, mark_check, late_check, width_check, fault}
 use Rattle.rules.specs.Worlds.{World, world}

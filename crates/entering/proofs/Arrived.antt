@@ -1,8 +1,7 @@
 -- An order that came to the book arrives as the rule says. Assumes nothing.
 use Rattle.std.proofs.Common.{◌≡◌, ℕ, ◌+◌, ◌<◌, ◌≤◌, max, Bool, true, false, not, ◌||◌, ltb, leb, List, [], ◌∷◌, ◌++◌, map, length, Some, None, Ok, Err, Option, Result, sym, refl, ap, ◌∙◌, subst, arith}
 use Rattle.std.proofs.lemmas.Bool.{lt-ltb}
-use Rattle.book.specs.Entries.{Enters, EntersFrom, Accepted, planned, arriving_as, settled, SomePlace, last_stamp, any_free}
-use Rattle.book.specs.Entries.{entry_checks as book_checks}
+use Rattle.book.specs.Entries.{Enters, EntersFrom, Accepted, planned, arriving_as, settled, SomePlace, last_stamp, any_free, entry_checks as book_checks}
 use Rattle.book.specs.Sweeps.{RoomLeft, lots_filled, takes}
 use Rattle.book.specs.Walks.{Fill, Walk, filled, trade_by}
 use Rattle.book.specs.declared.incoming.Incoming.{Incoming}
@@ -12,8 +11,9 @@ use Rattle.orders.specs.Queue.{counted, higher_first, lower_first}
 use Rattle.orders.specs.declared.row.OrderRow.{OrderRow}
 use Rattle.rules.specs.Arrivals.{Arrival, met, traded, remainder}
 use Rattle.rules.specs.Refusing.{place_check, tape_check, next_check}
-use Rattle.listing.specs.Contents.{Contents}
-use Rattle.listing.specs.Questions.{product_in, range_of}
+use Rattle.listing.specs.Changes.{Contents}
+use Rattle.listing.specs.Questions.{range_of}
+use Rattle.rules.specs.Held.{product_in}
 use Rattle.rules.specs.Worlds.{World, world, range_in, product_of, established_in}
 use Rattle.rules.specs.declared.state.State.{State}
 use Rattle.terms.specs.declared.right.Right.{Right}

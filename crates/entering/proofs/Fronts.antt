@@ -1,10 +1,10 @@
 -- An entry that nothing stopped comes in with the numbers that it brought. Assumes nothing.
 use Rattle.std.proofs.Common.{◌≡◌, ℕ, ◌+◌, ◌<◌, ◌≤◌, Bool, true, false, not, ◌&&◌, ltb, leb, List, [], ◌∷◌, Some, None, Option, sym, refl, ap, ◌∙◌, arith}
 use Rattle.std.proofs.lemmas.Bool.{leb-true, ltb-true, and_parts, not-false}
-use Rattle.listing.specs.Contents.{contents}
+use Rattle.listing.specs.Changes.{contents}
 use Rattle.listing.specs.Entries.{ticks_fit, kind_fits}
 use Rattle.listing.specs.Product.{entries}
-use Rattle.listing.specs.Questions.{product_in, listed_check}
+use Rattle.rules.specs.Held.{product_in, listed_check}
 use Rattle.listing.specs.declared.products.Products.{Products}
 use Rattle.orders.specs.Rows.{duration_code, duration_date}
 use Rattle.rules.specs.Arrivals.{Arrival}

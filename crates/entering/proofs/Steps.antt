@@ -2,7 +2,7 @@
 use Rattle.std.proofs.Common.{◌≡◌, ℕ, ◌+◌, ◌<◌, Bool, true, false, cond, not, ◌||◌, ltb, List, [], ◌∷◌, ◌++◌, map, length, Some, None, Ok, Err, Result, sym, refl, ap, ◌∙◌, subst}
 use Rattle.std.proofs.lemmas.Bool.{lt-ltb}
 use Rattle.book.specs.declared.outcome.Receipt.{Receipt as BookReceipt}
-use Rattle.listing.specs.Contents.{Contents}
+use Rattle.listing.specs.Changes.{Contents}
 use Rattle.orders.specs.declared.row.OrderRow.{OrderRow}
 use Rattle.rules.specs.Arrivals.{Arrival, met, arrived, halt_by, halt_in, halting, halts_market, receipt_for}
 use Rattle.rules.specs.Calls.{Call, Answer, told, enter, received}

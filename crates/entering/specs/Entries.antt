@@ -1,7 +1,7 @@
 -- An order on its way to the book: what stops it, and what it comes in as. Assumes nothing.
 use Rattle.std.specs.Prelude.{◌≡◌, ℕ, ◌+◌, not, List, [], ◌∷◌, ◌++◌, Some, None, Ok, Err, Option, Result}
 use Rattle.book.specs.declared.incoming.Incoming.{Incoming}
-use Rattle.listing.specs.Questions.{listed_check}
+use Rattle.rules.specs.Held.{listed_check}
 use Rattle.orders.specs.Rows.{duration_code, duration_date}
 use Rattle.rules.specs.Arrivals.{Arrival}
 use Rattle.rules.specs.Entering.{entry}

@@ -1,7 +1,7 @@
 // What an order that arrived leaves of the market.
 ghost use Rattle.std.specs.Prelude.{◌≡◌, ◌||◌, if◌then◌else◌, nat_lt};
-ghost use Rattle.listing.specs.Contents.{contents};
-ghost use Rattle.listing.specs.Questions.{product_in};
+ghost use Rattle.listing.specs.Changes.{contents};
+ghost use Rattle.rules.specs.Held.{product_in};
 ghost use Rattle.rules.specs.Arrivals.{halt_by, halts_market, halting};
 ghost use Rattle.rules.specs.Worlds.{state_of};
 ghost use Rattle.terms.specs.declared.halt.Halt.TheVariants.{Nothing as no_halt};

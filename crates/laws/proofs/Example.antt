@@ -1,8 +1,9 @@
 -- A history that trades, is asked about and is cancelled: the laws are not about nothing. Assumes nothing.
 use Rattle.std.proofs.Common.{ℕ, zero, suc, false, List, [], ◌∷◌, Some, Ok, refl, arith, lit<}
 use Rattle.established.specs.Corrections.{corrected_in}
-use Rattle.established.specs.Established.{established, established_from, established_spot, established_future}
-use Rattle.listing.specs.Contents.{Contents}
+use Rattle.established.specs.Established.{established_from}
+use Rattle.rules.specs.Worth.{established, established_spot, established_future}
+use Rattle.listing.specs.Changes.{Contents}
 use Rattle.listing.specs.declared.entry.Listed.{Listed}
 use Rattle.listing.specs.declared.kind.Kind.TheVariants.{Future}
 use Rattle.orders.specs.Queue.{counted}
@@ -17,8 +18,7 @@ use Rattle.terms.specs.declared.phase.Phase.TheVariants.{Closed, BeforeNight, Ni
 use Rattle.terms.specs.declared.side.Side.{Side}
 use Rattle.terms.specs.declared.side.Side.TheVariants.{Buy, Sell}
 use Rattle.rules.specs.Arrivals.{met, arrived}
-use Rattle.rules.specs.Calls.{Call, Answer}
-use Rattle.rules.specs.Calls.{roll, open_session, enter, request, determine, done, received, case_on}
+use Rattle.rules.specs.Calls.{Call, Answer, roll, open_session, enter, request, determine, done, received, case_on}
 use Rattle.rules.specs.Rules.{Step, accepts}
 use Rattle.rules.specs.Worlds.{World, world, state_of}
 use Rattle.rules.specs.declared.new_order.NewOrder.{NewOrder}

@@ -6,7 +6,7 @@ use Rattle.limits.specs.Ranges.{tradeable}
 use Rattle.listing.specs.Changes.{with_halt, with_reference, with_frenetic, settled, lifted}
 use Rattle.listing.specs.Entries.{is_future, unlisted}
 use Rattle.listing.specs.Product.{product_at, fresh, ticks_in_force}
-use Rattle.listing.specs.Questions.{product_in}
+use Rattle.rules.specs.Held.{product_in}
 use Rattle.listing.specs.declared.kind.Kind.{Kind}
 use Rattle.listing.specs.declared.kind.Kind.TheVariants.{Future, Option as AnOption}
 use Rattle.listing.specs.declared.product.Product.{Product}
@@ -19,8 +19,7 @@ use Rattle.terms.specs.declared.halt.Halt.TheVariants.{Nothing, OneOption, Whole
 use Rattle.terms.specs.declared.refusal.Refusal.{Refusal}
 use Rattle.rules.specs.Amending.{slot_in, new_price, arrives_again, repriced, after_arrival, after_change, after_amendment, changed_receipt, amended_receipt}
 use Rattle.rules.specs.Arrivals.{Arrival, met, arrived, halt_by, halt_in, halting, halts_market, receipt_for}
-use Rattle.rules.specs.Calls.{Call, Answer}
-use Rattle.rules.specs.Calls.{roll, open_session, close_session, enter, amend, withdraw, adjust, frenetic, resume, request, determine, received}
+use Rattle.rules.specs.Calls.{Call, Answer, roll, open_session, close_session, enter, amend, withdraw, adjust, frenetic, resume, request, determine, received}
 use Rattle.rules.specs.Entering.{entry}
 use Rattle.rules.specs.Refusing.{fault}
 use Rattle.rules.specs.Rules.{Step, refuses, accepts, after, answer, Chosen}

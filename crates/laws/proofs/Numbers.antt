@@ -2,7 +2,7 @@
 use Rattle.std.proofs.Common.{◌≡◌, ℕ, zero, suc, ◌+◌, ◌-◌, ◌<◌, ◌≤◌, Bool, true, false, eqb, ◌⊎◌, List, [], ◌∷◌, ◌++◌, map, length, get_or, set, None, Result, sym, refl, ap, ◌∙◌, subst, inl, inr, arith}
 use Rattle.std.proofs.lemmas.Bool.{both_ways, cond_both, eqb-false, not-false}
 use Rattle.book.specs.Walks.{row_left}
-use Rattle.listing.specs.Contents.{Contents}
+use Rattle.listing.specs.Changes.{Contents}
 use Rattle.orders.specs.Closes.{expired, leaves}
 use Rattle.orders.specs.Queue.{counted}
 use Rattle.orders.specs.Questions.{stands}
@@ -23,8 +23,7 @@ use Rattle.terms.specs.declared.side.Side.{Side}
 use Rattle.terms.specs.declared.side.Side.TheVariants.{Buy, Sell}
 use Rattle.rules.specs.Amending.{slot_in, side_in, repriced, changed_order, takes_stamp, stamp_after, arrives_again, after_arrival, after_change, after_amendment}
 use Rattle.rules.specs.Arrivals.{Arrival, met, arrived, traded, remainder, halting, halt_in, by_side}
-use Rattle.rules.specs.Calls.{Call, Answer}
-use Rattle.rules.specs.Calls.{roll, open_session, close_session, enter, amend, withdraw, adjust, frenetic, resume, request, determine}
+use Rattle.rules.specs.Calls.{Call, Answer, roll, open_session, close_session, enter, amend, withdraw, adjust, frenetic, resume, request, determine}
 use Rattle.rules.specs.Entering.{entry}
 use Rattle.rules.specs.Refusing.{fault}
 use Rattle.rules.specs.Rules.{after, Chosen, close_in, Step, refuses, accepts}

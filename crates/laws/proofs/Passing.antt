@@ -1,8 +1,8 @@
 -- What an accepted call passed: each of its checks, by name. Assumes nothing.
 use Rattle.std.proofs.Common.{◌≡◌, ℕ, ◌<◌, ◌≤◌, Bool, true, false, not, ◌&&◌, ltb, leb, List, [], ◌∷◌, Some, None, Option, refl, ap}
 use Rattle.std.proofs.lemmas.Bool.{true≢false, and_parts, leb-true, ltb-true, not-true}
-use Rattle.listing.specs.Contents.{Contents}
-use Rattle.listing.specs.Questions.{listed_check}
+use Rattle.listing.specs.Changes.{Contents}
+use Rattle.rules.specs.Held.{listed_check}
 use Rattle.terms.specs.Checks.{unless, earliest}
 use Rattle.terms.specs.declared.field.Field.TheVariants.{Price as the_price, Quantity as the_quantity, Participant as the_participant}
 use Rattle.terms.specs.declared.price.Price.{Price}

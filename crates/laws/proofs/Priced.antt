@@ -1,11 +1,10 @@
 -- Every listed product's reference price is a price that exists. Assumes nothing.
 use Rattle.std.proofs.Common.{◌≡◌, ℕ, zero, suc, ◌<◌, ◌≤◌, true, eqb, leb, List, [], ◌∷◌, length, set, None, Result, sym, refl, subst, inl, inr, le_of_suc-le-suc, not-suc-le-zero, arith, get_or-set_other}
 use Rattle.std.proofs.lemmas.Bool.{cond_both, cases_eq, and_parts, leb-true, eqb-true}
-use Rattle.listing.specs.Changes.{with_product, with_reference, with_frenetic, with_halt, lifted, settled, all_prices, settle_check}
-use Rattle.listing.specs.Contents.{Contents}
+use Rattle.listing.specs.Changes.{with_reference, with_frenetic, with_halt, lifted, settled, all_prices, Contents}
+use Rattle.rules.specs.Held.{with_product, settle_check, product_in}
 use Rattle.listing.specs.Entries.{unlisted}
 use Rattle.listing.specs.Product.{product_at, fresh}
-use Rattle.listing.specs.Questions.{product_in}
 use Rattle.listing.specs.declared.product.Product.{Product}
 use Rattle.terms.specs.Checks.{unless}
 use Rattle.terms.specs.declared.field.Field.TheVariants.{Settlements, Price as the_price}
@@ -15,8 +14,7 @@ use Rattle.terms.specs.declared.refusal.Refusal.{Refusal}
 use Rattle.terms.specs.declared.refusal.Refusal.TheVariants.{OutOfRange}
 use Rattle.rules.specs.Amending.{arrives_again, after_arrival, after_change, after_amendment, repriced}
 use Rattle.rules.specs.Arrivals.{arrived, halting, halt_in}
-use Rattle.rules.specs.Calls.{Call, Answer}
-use Rattle.rules.specs.Calls.{roll, open_session, close_session, enter, amend, withdraw, adjust, frenetic, resume, request, determine}
+use Rattle.rules.specs.Calls.{Call, Answer, roll, open_session, close_session, enter, amend, withdraw, adjust, frenetic, resume, request, determine}
 use Rattle.rules.specs.Entering.{entry}
 use Rattle.rules.specs.Refusing.{fault, checks}
 use Rattle.rules.specs.Rules.{Step, refuses, accepts, after}

@@ -4,11 +4,10 @@ use Rattle.std.specs.List.{range_with_len}
 use Rattle.std.specs.Option.{option_map}
 use Rattle.std.proofs.lemmas.Bool.{true≢false, false≢true, both_ways, cond_both, and_from, and_cases, or_parts, or_from, cases_eq, cases_lt, eqb-true, eq-eqb, leb-false, not-true, not-false, not_from_false}
 use Rattle.book.specs.Walks.{row_left, filled}
-use Rattle.listing.specs.Changes.{with_halt, with_reference, with_frenetic}
-use Rattle.listing.specs.Contents.{Contents}
+use Rattle.listing.specs.Changes.{with_halt, with_reference, with_frenetic, Contents}
 use Rattle.listing.specs.Entries.{is_future}
 use Rattle.listing.specs.Product.{product_at}
-use Rattle.listing.specs.Questions.{product_in}
+use Rattle.rules.specs.Held.{product_in}
 use Rattle.listing.specs.declared.kind.Kind.{Kind}
 use Rattle.listing.specs.declared.kind.Kind.TheVariants.{Future, Option as AnOption}
 use Rattle.listing.specs.declared.product.Product.{Product}
@@ -27,8 +26,7 @@ use Rattle.terms.specs.declared.side.Side.{Side}
 use Rattle.terms.specs.declared.side.Side.TheVariants.{Buy, Sell}
 use Rattle.rules.specs.Amending.{slot_in, new_price, arrives_again, repriced, changed_order, after_arrival, after_change, after_amendment}
 use Rattle.rules.specs.Arrivals.{Arrival, met, arrived, remainder, halt_by, halt_in, halts_market, halting}
-use Rattle.rules.specs.Calls.{Call, Answer}
-use Rattle.rules.specs.Calls.{roll, open_session, close_session, enter, amend, withdraw, adjust, frenetic, resume, request, determine}
+use Rattle.rules.specs.Calls.{Call, Answer, roll, open_session, close_session, enter, amend, withdraw, adjust, frenetic, resume, request, determine}
 use Rattle.rules.specs.Entering.{entry}
 use Rattle.rules.specs.Refusing.{fault, checks, crossed_check, crossing_check}
 use Rattle.rules.specs.Rules.{Step, refuses, accepts, after, Chosen}

@@ -1,15 +1,14 @@
 -- Histories: what was called, from the making of a market on. Assumes nothing.
 use Rattle.std.specs.Prelude.{◌≡◌, ℕ, ◌+◌, ◌<◌, Bool, true, false, ◌&&◌, List, [], ◌∷◌, Ok, Err, Result, ◌==◌}
-use Rattle.listing.specs.Contents.{Contents}
+use Rattle.listing.specs.Changes.{Contents}
 use Rattle.listing.specs.Product.{fresh}
-use Rattle.listing.specs.Questions.{product_in}
+use Rattle.rules.specs.Held.{product_in}
 use Rattle.orders.specs.Rows.{free}
 use Rattle.terms.specs.declared.determination.Determination.{Determination}
 use Rattle.terms.specs.declared.determination.Determination.TheVariants.{Upheld, Cancelled}
 use Rattle.terms.specs.declared.phase.Phase.TheVariants.{Closed}
 use Rattle.terms.specs.declared.refusal.Refusal.{Refusal}
-use Rattle.rules.specs.Calls.{Call, Answer}
-use Rattle.rules.specs.Calls.{roll, open_session, close_session, enter, amend, withdraw, adjust, frenetic, resume, request, determine}
+use Rattle.rules.specs.Calls.{Call, Answer, roll, open_session, close_session, enter, amend, withdraw, adjust, frenetic, resume, request, determine}
 use Rattle.rules.specs.Rules.{Step}
 use Rattle.rules.specs.Worlds.{World, state_of}
 use Rattle.laws.specs.Words.{count, Each}

@@ -1,6 +1,6 @@
 -- A market, its order table and its tape as the world of a call, and what a call's contract says of them. Assumes nothing.
 use Rattle.std.specs.Prelude.{◌≡◌, ℕ, List, [], Result}
-use Rattle.listing.specs.Contents.{contents}
+use Rattle.listing.specs.Changes.{contents}
 use Rattle.orders.specs.declared.row.OrderRow.{OrderRow}
 use Rattle.tape.specs.declared.row.TradeRow.{TradeRow}
 use Rattle.terms.specs.Checks.{answered, left_by}

@@ -1,6 +1,6 @@
 -- What is asked of a market, its book and its tape. Assumes nothing.
 use Rattle.std.specs.Prelude.{ℕ, List, [], ◌∷◌, Option, Result}
-use Rattle.listing.specs.Questions.{listed_check}
+use Rattle.rules.specs.Held.{listed_check}
 use Rattle.limits.specs.declared.range.Range.{Range}
 use Rattle.orders.specs.Questions.{best_buy, best_sell}
 use Rattle.rules.specs.Refusing.{time_check}

@@ -2,8 +2,8 @@
 use Rattle.std.proofs.Common.{◌≡◌, ℕ, Bool, true, false, ◌&&◌, eqb, leb, List, [], ◌∷◌, map, length, Some, None, Option, sym, refl, ap}
 use Rattle.std.specs.List.{range_with_len}
 use Rattle.std.proofs.lemmas.Bool.{and_parts, leb-true}
-use Rattle.listing.specs.Changes.{all_prices, settle_check}
-use Rattle.listing.specs.Contents.{Contents}
+use Rattle.listing.specs.Changes.{all_prices, Contents}
+use Rattle.rules.specs.Held.{settle_check}
 use Rattle.orders.specs.declared.row.OrderRow.{OrderRow}
 use Rattle.terms.specs.Checks.{unless, earliest}
 use Rattle.terms.specs.Refusals.{refusal_number}
@@ -15,8 +15,7 @@ use Rattle.terms.specs.declared.refusal.Refusal.{Refusal}
 use Rattle.terms.specs.declared.refusal.Refusal.TheVariants.{OutOfRange}
 use Rattle.terms.specs.declared.side.Side.{Side}
 use Rattle.rules.specs.Amending.{order_in, side_in, new_price}
-use Rattle.rules.specs.Calls.{Call}
-use Rattle.rules.specs.Calls.{roll, open_session, close_session, enter, amend, withdraw, adjust, frenetic, resume, request, determine}
+use Rattle.rules.specs.Calls.{Call, roll, open_session, close_session, enter, amend, withdraw, adjust, frenetic, resume, request, determine}
 use Rattle.rules.specs.Numbers.{check_numbers, Rising, Numbered, Told}
 use Rattle.rules.specs.Refusing.{checks, limit_check, date_check, limit_held, amended_limit, crossed_check}
 use Rattle.rules.specs.Worlds.{World, sweep_in}

@@ -3,9 +3,8 @@ use Rattle.std.specs.Prelude.{ℕ, Bool, true, false, cond, ◌||◌, List, ◌+
 use Rattle.book.specs.Entries.{settled}
 use Rattle.book.specs.Sweeps.{due, lots_filled}
 use Rattle.book.specs.Walks.{Fill, Walk, walk}
-use Rattle.listing.specs.Changes.{with_product, with_halt}
-use Rattle.listing.specs.Contents.{Contents}
-use Rattle.listing.specs.Questions.{product_in}
+use Rattle.listing.specs.Changes.{with_halt, Contents}
+use Rattle.rules.specs.Held.{with_product, product_in}
 use Rattle.listing.specs.declared.kind.Kind.{Kind}
 use Rattle.listing.specs.declared.kind.Kind.TheVariants.{Future, Option as AnOption}
 use Rattle.orders.specs.Queue.{Slot, queue, higher_first, lower_first}

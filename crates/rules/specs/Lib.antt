@@ -1,3 +1,5 @@
+pub mod Held
+pub mod Worth
 pub mod Worlds
 pub mod Calls
 pub mod Arrivals

@@ -6,9 +6,9 @@ use Rattle.book.specs.Entries.{any_free, last_stamp}
 use Rattle.book.specs.Sweeps.{takes}
 use Rattle.established.specs.Verdicts.{verdict_on}
 use Rattle.limits.specs.Sweeps.{sweep_check}
-use Rattle.listing.specs.Changes.{frenetic_check, settle_check}
-use Rattle.listing.specs.Listings.{products_of}
-use Rattle.listing.specs.Questions.{listed_check, any_halted}
+use Rattle.listing.specs.Changes.{frenetic_check}
+use Rattle.rules.specs.Held.{settle_check, products_of, listed_check}
+use Rattle.listing.specs.Questions.{any_halted}
 use Rattle.orders.specs.Queue.{counted}
 use Rattle.orders.specs.Questions.{best_buy, best_sell, crosses}
 use Rattle.orders.specs.declared.row.OrderRow.{OrderRow}
@@ -31,8 +31,7 @@ use Rattle.terms.specs.declared.verdict.Verdict.{Verdict}
 use Rattle.terms.specs.declared.verdict.Verdict.TheVariants.{Within, Beyond}
 use Rattle.rules.specs.Amending.{rests_for, order_in, side_in, new_price, takes_stamp, amended_fills}
 use Rattle.rules.specs.Arrivals.{met}
-use Rattle.rules.specs.Calls.{Call}
-use Rattle.rules.specs.Calls.{roll, open_session, close_session, enter, amend, withdraw, adjust, frenetic, resume, request, determine}
+use Rattle.rules.specs.Calls.{Call, roll, open_session, close_session, enter, amend, withdraw, adjust, frenetic, resume, request, determine}
 use Rattle.rules.specs.Entering.{entry}
 use Rattle.rules.specs.Worlds.{World, in_session, before_session, is_closed, product_of, is_halted, sweep_in}
 use Rattle.rules.specs.declared.amendment.Amendment.{Amendment}

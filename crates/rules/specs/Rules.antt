@@ -2,8 +2,8 @@
 use Rattle.std.specs.Prelude.{◌≡◌, ℕ, ◌+◌, ◌-◌, false, List, length, Some, None, Ok, Err, Result, slice_set}
 use Rattle.book.specs.Entries.{SomePlace}
 use Rattle.book.specs.Sweeps.{RoomLeft}
-use Rattle.listing.specs.Changes.{with_product, with_reference, with_frenetic, without_halts, with_settlements}
-use Rattle.listing.specs.Contents.{Contents}
+use Rattle.listing.specs.Changes.{with_reference, with_frenetic, Contents}
+use Rattle.rules.specs.Held.{with_product, without_halts, with_settlements}
 use Rattle.orders.specs.Closes.{expired, removed as leaving}
 use Rattle.orders.specs.declared.close.Close.{Close}
 use Rattle.orders.specs.declared.row.OrderRow.{OrderRow}
@@ -15,9 +15,7 @@ use Rattle.terms.specs.declared.phase.Phase.TheVariants.{BeforeNight}
 use Rattle.terms.specs.declared.refusal.Refusal.{Refusal}
 use Rattle.rules.specs.Amending.{order_in, after_amendment, amended_receipt, amended_fills, after_withdrawal}
 use Rattle.rules.specs.Arrivals.{met, receipt_for}
-use Rattle.rules.specs.Calls.{Call, Answer}
-use Rattle.rules.specs.Calls.{roll, open_session, close_session, enter, amend, withdraw, adjust, frenetic, resume, request, determine}
-use Rattle.rules.specs.Calls.{done, removed, received, left_with, case_on}
+use Rattle.rules.specs.Calls.{Call, Answer, roll, open_session, close_session, enter, amend, withdraw, adjust, frenetic, resume, request, determine, done, removed, received, left_with, case_on}
 use Rattle.rules.specs.Entering.{entry, after_entry}
 use Rattle.rules.specs.Refusing.{fault}
 use Rattle.rules.specs.Worlds.{World, world, state_of, at_time, in_phase, ends_day, next_phase, product_of}

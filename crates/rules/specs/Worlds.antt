@@ -1,9 +1,11 @@
 -- What a call finds and leaves: the market's state and products, its pricing model, the order table and the tape. Assumes nothing.
 use Rattle.std.specs.Prelude.{ℕ, Bool, true, false, not, ◌&&◌, ◌||◌, List, Option}
-use Rattle.established.specs.Established.{moment, established}
+use Rattle.established.specs.Established.{moment}
+use Rattle.rules.specs.Worth.{established}
 use Rattle.limits.specs.declared.range.Range.{Range}
-use Rattle.listing.specs.Contents.{Contents}
-use Rattle.listing.specs.Questions.{product_in, range_of, sweep_of}
+use Rattle.listing.specs.Changes.{Contents}
+use Rattle.listing.specs.Questions.{range_of, sweep_of}
+use Rattle.rules.specs.Held.{product_in}
 use Rattle.listing.specs.declared.product.Product.{Product}
 use Rattle.orders.specs.Questions.{best_buy, best_sell}
 use Rattle.orders.specs.declared.row.OrderRow.{OrderRow}

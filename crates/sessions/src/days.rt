@@ -1,7 +1,7 @@
 // The turns of a day: a new day rolls in, sessions open and close.
 ghost use Rattle.std.specs.Prelude.{◌≡◌, [], None as passes};
-ghost use Rattle.listing.specs.Changes.{with_settlements};
-ghost use Rattle.listing.specs.Contents.{contents};
+ghost use Rattle.rules.specs.Held.{with_settlements};
+ghost use Rattle.listing.specs.Changes.{contents};
 ghost use Rattle.rules.specs.Calls.{roll as rolling, open_session, close_session, done, removed, told};
 ghost use Rattle.rules.specs.Refusing.{fault};
 ghost use Rattle.rules.specs.Rules.{after_roll};

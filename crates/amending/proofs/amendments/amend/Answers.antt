@@ -1,7 +1,8 @@
 use Rattle.std.proofs.Common.{◌≡◌, ℕ, ◌+◌, ◌<◌, ◌≤◌, Bool, true, false, cond, not, ◌&&◌, ◌||◌, eqb, ltb, List, Some, None, sym, refl, ap, ◌∙◌, subst, arith}
 use Rattle.book.specs.Entries.{last_stamp}
-use Rattle.listing.specs.Contents.{contents}
-use Rattle.listing.specs.Questions.{product_in, range_of}
+use Rattle.listing.specs.Changes.{contents}
+use Rattle.listing.specs.Questions.{range_of}
+use Rattle.rules.specs.Held.{product_in}
 use Rattle.listing.specs.declared.product.Product.{Product}
 use Rattle.orders.specs.Orders.{row_of}
 use Rattle.orders.specs.Queue.{slot_of}

@@ -1,7 +1,8 @@
 use Rattle.std.proofs.Common.{◌≡◌, ℕ, ◌+◌, ◌<◌, Ok, Err, sym, refl, ap, ◌∙◌, subst}
 use Rattle.book.specs.Entries.{EntersFrom}
-use Rattle.listing.specs.Contents.{contents}
-use Rattle.listing.specs.Questions.{product_in, range_of}
+use Rattle.listing.specs.Changes.{contents}
+use Rattle.listing.specs.Questions.{range_of}
+use Rattle.rules.specs.Held.{product_in}
 use Rattle.rules.specs.Arrivals.{Arrival}
 use Rattle.rules.specs.Calls.{enter, received}
 use Rattle.rules.specs.Worlds.{World, world, established_in, product_of}

@@ -1,6 +1,6 @@
 use Rattle.std.proofs.Common.{◌≡◌, List, [], ◌∷◌, Some, None, sym, refl, ap, ◌∙◌}
-use Rattle.listing.specs.Changes.{settle_check}
-use Rattle.listing.specs.Contents.{contents}
+use Rattle.rules.specs.Held.{settle_check}
+use Rattle.listing.specs.Changes.{contents}
 use Rattle.rules.specs.Calls.{roll}
 use Rattle.rules.specs.Refusing.{fault, time_check, phase_check, next_check}
 use Rattle.rules.specs.Worlds.{is_closed}

@@ -1,6 +1,6 @@
 use Rattle.std.proofs.Common.{◌≡◌, ℕ, None, sym, refl, ap, ◌∙◌}
-use Rattle.listing.specs.Changes.{with_product, with_reference}
-use Rattle.listing.specs.Questions.{listed_check, product_in}
+use Rattle.listing.specs.Changes.{with_reference}
+use Rattle.rules.specs.Held.{with_product, listed_check, product_in}
 use Rattle.rules.specs.Calls.{adjust, done}
 use Rattle.rules.specs.Refusing.{time_check, price_check}
 use Rattle.rules.specs.Worlds.{world, at_time}

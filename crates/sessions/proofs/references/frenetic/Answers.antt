@@ -1,7 +1,6 @@
 use Rattle.std.proofs.Common.{◌≡◌, sym, refl, ap, ◌∙◌}
-use Rattle.listing.specs.Changes.{widen_check, with_product, with_frenetic}
-use Rattle.listing.specs.Contents.{contents}
-use Rattle.listing.specs.Questions.{product_in}
+use Rattle.listing.specs.Changes.{with_frenetic, contents}
+use Rattle.rules.specs.Held.{widen_check, with_product, product_in}
 use Rattle.rules.specs.Calls.{frenetic, done}
 use Rattle.rules.specs.Worlds.{world, at_time}
 use Rattle.market.specs.Markets.{world_of}
