@@ -1,9 +1,9 @@
 -- Walking a tape back from its last record: what one record adds, and where the walk may stop. Assumes nothing.
 use Rattle.std.proofs.Common.{◌≡◌, ℕ, suc, ◌+◌, ◌-◌, ◌*◌, ◌<◌, ◌≤◌, Bool, true, false, cond, eqb, leb, List, [], ◌∷◌, ◌++◌, length, get_or, take, Some, None, All, sum_by, filter, Option, sym, refl, ap, ◌∙◌, add-zero, zero-add, arith}
 use Rattle.std.proofs.lemmas.Nat.{mul-le}
-use Rattle.std.proofs.lemmas.List.Elements.{filter_more, All-from_get_or, All-filter, All-weaker}
+use Rattle.std.proofs.lemmas.List.Elements.{filter_more, All-head, All-tail, All-from_get_or, All-filter, All-weaker}
 use Rattle.std.proofs.lemmas.List.{take_more, length-take-le, get_or-take}
-use Rattle.std.proofs.lemmas.List.Sums.{sum_by-append, sum_by-cons, sum_by-le, length-filter, count_by-le-length}
+use Rattle.std.proofs.lemmas.List.Sums.{sum_by-append, sum_by-le, length-filter, count_by-le-length}
 use Rattle.std.proofs.lemmas.Bool.{and_parts, and_from, and_left, and_right, lt-leb, le-leb, leb-true, eq-eqb, ne_eqb}
 use Rattle.terms.specs.Ranges.{highest_price, largest_quantity}
 use Rattle.tape.proofs.Times.{rising_at}
@@ -55,7 +55,8 @@ module _ (f : TradeRow → ℕ) (product time : ℕ) (rows : List TradeRow) (n :
 
 kept_none : (test : TradeRow → Bool) (rows : List TradeRow) → All (λ r. test r ≡ false) rows → filter test rows ≡ []
 kept_none test [] h = refl
-kept_none test (r ∷ rows) h = rw h.0 (kept_none test rows h.1)
+kept_none test (r ∷ rows) h =
+    rw (All-head (λ r. test r ≡ false) r rows h) (kept_none test rows (All-tail (λ r. test r ≡ false) r rows h))
 
 -- where one record is too old, so is each before it
 pub back_done : (product time : ℕ) (rows : List TradeRow) (n : ℕ) → Rising rows → 0 < n → n ≤ length rows → (trade : Trade) → Found rows (n - 1 + 1) trade → trade.time + window_seconds < time → window product time (take n rows) ≡ []

@@ -1,5 +1,5 @@
 -- What a tape in memory answers to each call. Assumes nothing.
-use Rattle.std.proofs.Common.{◌≡◌, ℕ, suc, ◌+◌, ◌-◌, ◌<◌, ◌≤◌, true, false, leb, ◌≢◌, ◌⊎◌, List, [], ◌∷◌, ◌++◌, length, get_or, set, Some, None, Option, sym, refl, ap, ◌∙◌, ⊎_elim, arith}
+use Rattle.std.proofs.Common.{◌≡◌, ℕ, suc, ◌+◌, ◌-◌, ◌<◌, ◌≤◌, true, false, leb, ◌≢◌, ◌⊎◌, length, Some, None, Option, sym, refl, ap, ◌∙◌, ⊎_elim, arith}
 use Rattle.std.proofs.lemmas.Bool.{and_from, and_left, and_right, and_parts, le-leb, lt-leb, leb-true, both_ways, cases_eq, cases_lt}
 use Rattle.std.specs.Option.{ok_or}
 use Rattle.terms.specs.Numbers.{mark_number}
@@ -10,8 +10,8 @@ use Rattle.tape.proofs.Memory.{length_placed, getD_placed, latest_placed}
 use Rattle.tape.specs.Placed.{placed, FairPlaces, RisingPlaces}
 use Rattle.tape.specs.Ranges.{last_mark}
 use Rattle.tape.specs.Rows.{fair}
-use Rattle.tape.specs.Tapes.{blank, on_tape, record_at, marked, latest, Absent, Found, Reads}
-use Rattle.tape.specs.Trades.{row_of, Checks}
+use Rattle.tape.specs.Tapes.{blank, on_tape, record_at, marked, latest, Absent, Reads}
+use Rattle.tape.specs.Trades.{Checks}
 use Rattle.tape.specs.declared.row.TradeRow.{TradeRow}
 use Rattle.tape.specs.declared.trade.Trade.{Trade}
 

@@ -1,6 +1,6 @@
 -- Times that never fall, and the last of them. Assumes nothing.
-use Rattle.std.proofs.Common.{◌≡◌, ℕ, zero, suc, ◌+◌, ◌-◌, ◌<◌, ◌≤◌, List, [], ◌∷◌, ◌++◌, length, get_or, take, All, sym, refl, ap, ◌∙◌, suc-le-suc, zero-le, arith}
-use Rattle.std.proofs.lemmas.List.Elements.{All-get_or, All-weaker}
+use Rattle.std.proofs.Common.{◌≡◌, ℕ, zero, suc, ◌+◌, ◌<◌, ◌≤◌, List, [], ◌∷◌, ◌++◌, length, get_or, take, All, sym, refl, ap, ◌∙◌, arith}
+use Rattle.std.proofs.lemmas.List.Elements.{All-nil, All-cons, All-get_or, All-weaker}
 use Rattle.std.proofs.lemmas.List.{take_all, take_more}
 use Rattle.tape.specs.Tapes.{blank, latest_since, latest, Rising}
 use Rattle.tape.specs.declared.row.TradeRow.{TradeRow}
@@ -26,10 +26,10 @@ rising_at (r ∷ rows) (suc i) zero h le lt = absurd (omega arith)
 rising_at (r ∷ rows) (suc i) (suc j) h le lt = rising_at rows i j h.1 (omega arith) (omega arith)
 
 later_all : (time : ℕ) (rows : List TradeRow) → Rising rows → (0 < length rows → time ≤ (get_or rows 0 blank).time) → All (λ later. time ≤ later.time) rows
-later_all time [] h first = tt
+later_all time [] h first = All-nil (λ later. time ≤ later.time)
 later_all time (r ∷ rows) h first =
     let f : time ≤ r.time = first (omega arith) in
-    (f, All-weaker (λ later. r.time ≤ later.time) (λ later. time ≤ later.time) (λ later le. omega arith) rows h.0)
+    All-cons (λ later. time ≤ later.time) r rows f (All-weaker (λ later. r.time ≤ later.time) (λ later. time ≤ later.time) (λ later le. omega arith) rows h.0)
 
 -- it is enough that no time is above the next one
 pub rising_from_next : (rows : List TradeRow) → ((k : ℕ) → suc k < length rows → (get_or rows k blank).time ≤ (get_or rows (suc k) blank).time) → Rising rows

@@ -1,7 +1,6 @@
 -- A trade as the record of its numbers. Assumes nothing.
 use Rattle.std.specs.Prelude.{◌≡◌, true, false, Some, None, Option}
 use Rattle.terms.specs.Numbers.{mark_number}
-use Rattle.terms.specs.declared.mark.Mark.{Mark}
 use Rattle.tape.specs.Rows.{fair}
 use Rattle.tape.specs.declared.row.TradeRow.{TradeRow}
 use Rattle.tape.specs.declared.trade.Trade.{Trade}

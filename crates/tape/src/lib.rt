@@ -54,12 +54,12 @@ where
 
     fn read(&self, n: u32) -> Result<Trade, Self::Fault>
         ensures answer { Reads told (records self.now) n result }
-        ensures tells { Tells from_gives told };
+        ensures tells { Tells bound-2.from_gives told };
 
     fn add(&mut self, trade: Trade) -> Result<(), AddFault>
         ensures { Adds records space self.old trade self.new result };
 
     fn mark(&mut self, n: u32, mark: Mark) -> Result<(), Self::Fault>
         ensures answer { Marks records space told self.old n mark self.new result }
-        ensures tells { Tells from_gives told };
+        ensures tells { Tells bound-2.from_gives told };
 }

@@ -1,12 +1,11 @@
-use Rattle.std.proofs.Common.{◌≡◌, ℕ, ◌+◌, ◌-◌, ◌<◌, ◌≤◌, Bool, true, false, cond, eqb, leb, length, get_or, take, Some, None, Option, sym, refl, ap, ◌∙◌, ⊎_elim, arith}
+use Rattle.std.proofs.Common.{◌≡◌, ℕ, ◌+◌, ◌-◌, ◌<◌, ◌≤◌, Bool, true, false, cond, eqb, leb, length, get_or, take, Some, sym, ap, ◌∙◌, ⊎_elim, arith}
 use Rattle.std.proofs.lemmas.List.{take_all}
 use Rattle.std.proofs.lemmas.Bool.{and_from, and_left, and_right, and_parts, eq-eqb, ne_eqb, leb-true, cases_lt}
 use Rattle.tape.proofs.Back.{last_more, walked}
-use Rattle.tape.proofs.day.last_of_day.Given as given
 use Rattle.tape.proofs.day.last_of_day.Goals as goal
 use Rattle.tape.proofs.day.last_of_day.Goals.{else-trade-product-via-then-trade-product+else-trade-day, else-trade-product-via-else-trade-product}
 use Rattle.tape.specs.Days.{of_day, last_of}
-use Rattle.tape.specs.Tapes.{blank, on_tape, record_at}
+use Rattle.tape.specs.Tapes.{blank, record_at}
 use Rattle.tape.specs.Trades.{row_of}
 use Rattle.tape.specs.declared.row.TradeRow.{TradeRow}
 

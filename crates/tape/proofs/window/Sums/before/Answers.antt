@@ -1,11 +1,10 @@
-use Rattle.std.proofs.Common.{◌≡◌, ◌+◌, ◌-◌, ◌*◌, ◌<◌, ◌≤◌, [], length, take, ap, arith}
+use Rattle.std.proofs.Common.{◌≡◌, ◌+◌, ◌-◌, ◌*◌, ◌≤◌, [], length, take, ap, arith}
 use Rattle.std.proofs.lemmas.List.{take_all}
 use Rattle.tape.proofs.Back.{back_taken, back_passed, back_done, turnover_bound, volume_bound}
 use Rattle.tape.proofs.window.Sums.before.Given as given
 use Rattle.tape.proofs.window.Sums.before.Goals as goal
 use Rattle.tape.specs.Ranges.{most_records}
-use Rattle.tape.specs.Windows.{window, window_seconds, worth, turnover, volume}
-use Rattle.tape.specs.declared.row.TradeRow.{TradeRow}
+use Rattle.tape.specs.Windows.{window, worth, turnover, volume}
 
 pub loop-i-init : goal.loop-i-init
 loop-i-init g c =
