@@ -1,5 +1,5 @@
 -- A walk neither makes nor loses a lot. Assumes nothing.
-use Rattle.std.proofs.Common.{◌≡◌, ℕ, ◌+◌, ◌-◌, min, Bool, true, false, cond, not, ◌&&◌, eqb, List, [], ◌∷◌, ◌++◌, map, length, is_some, Some, None, Option, sym, refl, ap, ◌∙◌, arith}
+use Rattle.std.proofs.Common.{◌≡◌, ℕ, ◌+◌, ◌-◌, min, Bool, true, false, not, ◌&&◌, eqb, List, [], ◌∷◌, ◌++◌, map, length, is_some, Some, None, Option, sym, refl, ap, ◌∙◌, arith}
 use Rattle.std.proofs.lemmas.List.{append-nil}
 use Rattle.std.proofs.lemmas.List.Sums.{sum_by-cons}
 use Rattle.std.proofs.lemmas.Bool.{cond_both, ne_eqb}
@@ -9,7 +9,7 @@ use Rattle.orders.specs.declared.row.OrderRow.{OrderRow}
 use Rattle.tape.specs.declared.row.TradeRow.{TradeRow}
 use Rattle.terms.specs.Checked.{lots_left}
 use Rattle.terms.specs.declared.quantity.Quantity.{Quantity}
-use Rattle.book.specs.Sweeps.{due, killed, lots_filled, takes, Made}
+use Rattle.book.specs.Sweeps.{due, lots_filled, takes, Made}
 use Rattle.book.specs.Walks.{Fill, Walk, stop, fill_of, fill_then, walk, filled, trade_by}
 use Rattle.book.specs.declared.arriving.Arriving.{Arriving}
 use Rattle.book.specs.declared.outcome.Swept.{Swept}

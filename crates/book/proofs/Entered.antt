@@ -1,5 +1,6 @@
 -- The checks of an entry, one after another. Assumes nothing.
-use Rattle.std.proofs.Common.{◌≡◌, ℕ, zero, suc, ◌<◌, ◌≤◌, Bool, true, false, not, ◌||◌, ltb, List, [], ◌∷◌, length, get_or, Some, None, All, Option, sym, refl, ap, ◌∙◌, arith}
+use Rattle.std.proofs.Common.{◌≡◌, ℕ, zero, suc, ◌<◌, ◌≤◌, Bool, true, false, not, ltb, List, [], ◌∷◌, length, get_or, Some, None, All, Option, refl, ap, ◌∙◌, arith}
+use Rattle.std.proofs.lemmas.List.Elements.{All-head, All-tail}
 use Rattle.std.proofs.lemmas.Bool.{or_right, lt-ltb, le-ltb}
 use Rattle.orders.proofs.Heads.{length_counted, getD_counted}
 use Rattle.orders.specs.Queue.{counted}
@@ -22,7 +23,7 @@ place_free products table i l h =
 
 pub none_free : (products : ℕ) (rows : List OrderRow) → All (λ r. stands products r ≡ true) rows → any_free products rows ≡ false
 none_free products [] a = refl
-none_free products (r ∷ rows) a = rw a.0 (none_free products rows a.1)
+none_free products (r ∷ rows) a = rw (All-head (λ r. stands products r ≡ true) r rows a) (none_free products rows (All-tail (λ r. stands products r ≡ true) r rows a))
 
 -- the checks in a row, by what is known of each
 module _ (product products stamp : ℕ) (table : List OrderRow) (fits : Bool) (trades : ℕ) where

@@ -1,6 +1,6 @@
 -- The queue behind its first order is the rest of the queue. Assumes the laws of a side.
-use Rattle.std.proofs.Common.{◌≡◌, ℕ, suc, ◌+◌, ◌<◌, ◌≤◌, Bool, true, false, cond, not, ◌&&◌, ◌||◌, ltb, List, [], ◌∷◌, length, Some, None, All, filter, Option, sym, refl, ap, ◌∙◌, subst, arith}
-use Rattle.std.proofs.lemmas.List.Elements.{All-filter, All-weaker, filter_passes}
+use Rattle.std.proofs.Common.{◌≡◌, ℕ, suc, ◌<◌, Bool, true, false, cond, not, ◌&&◌, ◌||◌, ltb, List, [], ◌∷◌, length, Some, None, All, filter, Option, sym, refl, ap, ◌∙◌, subst, arith}
+use Rattle.std.proofs.lemmas.List.Elements.{All-cons, All-filter, All-head, All-nil, All-tail, All-weaker, filter_passes}
 use Rattle.std.proofs.lemmas.Bool.{le-ltb, lt-ltb, ltb-true, ltb-false, true≢false, false≢true, and_parts}
 use Rattle.orders.specs.Queue.{Slot, slots, before, insert, sorted, head, past, rests, wanted, behind, counted}
 use Rattle.orders.specs.declared.row.OrderRow.{OrderRow}
@@ -91,7 +91,7 @@ rising_kept p (x ∷ xs) r = go (p x) (rising_kept p xs r.1)
 -- a filter that all pass
 kept_all : (p : Slot → Bool) (xs : List Slot) → All (λ y. p y ≡ true) xs → filter p xs ≡ xs
 kept_all p [] a = refl
-kept_all p (x ∷ xs) a = rw a.0 (ap (λ l. x ∷ l) (kept_all p xs a.1))
+kept_all p (x ∷ xs) a = rw (All-head (λ y. p y ≡ true) x xs a) (ap (λ l. x ∷ l) (kept_all p xs (All-tail (λ y. p y ≡ true) x xs a)))
 
 -- two filters are one
 kept_kept : (p q r : Slot → Bool) → ((x : Slot) → r x ≡ (p x && q x)) → (xs : List Slot) → filter r xs ≡ filter q (filter p xs)
@@ -109,7 +109,7 @@ module _ (lt : Slot → Slot → Bool) (o : Ranks lt) where
 
   -- nothing comes before the head
   low_insert : (x f : Slot) (q : List Slot) → head (insert lt x q) ≡ Some f → ((g : Slot) → head q ≡ Some g → All (λ y. lt y g ≡ false) q) → (lt x f ≡ false) × All (λ y. lt y f ≡ false) q
-  low_insert x f [] h i = (subst (λ (z : Slot). lt x z ≡ false) (some_same x f h) (strict x), tt)
+  low_insert x f [] h i = (subst (λ (z : Slot). lt x z ≡ false) (some_same x f h) (strict x), All-nil (λ y. lt y f ≡ false))
   low_insert x f (g ∷ gs) h i = go (lt x g) refl h
     where
       go : (b : Bool) → lt x g ≡ b → head (cond b (x ∷ g ∷ gs) (g ∷ insert lt x gs)) ≡ Some f → (lt x f ≡ false) × All (λ y. lt y f ≡ false) (g ∷ gs)
@@ -119,22 +119,22 @@ module _ (lt : Slot → Slot → Bool) (o : Ranks lt) where
       go false e h = subst (λ (z : Slot). (lt x z ≡ false) × All (λ y. lt y z ≡ false) (g ∷ gs)) (some_same g f h) (e, i g refl)
 
   low_sorted : (xs : List Slot) (f : Slot) → head (sorted lt xs) ≡ Some f → All (λ y. lt y f ≡ false) (sorted lt xs)
-  low_sorted [] f h = tt
+  low_sorted [] f h = All-nil (λ y. lt y f ≡ false)
   low_sorted (x ∷ xs) f h =
       let l = low_insert x f (sorted lt xs) h (λ g. low_sorted xs g) in
       all_insert lt (λ y. lt y f ≡ false) x (sorted lt xs) l.0 l.1
 
   all_of_insert : (P : Slot → Type 0) (x : Slot) (q : List Slot) → All P (insert lt x q) → P x × All P q
-  all_of_insert P x [] a = a
+  all_of_insert P x [] a = (All-head P x [] a, All-nil P)
   all_of_insert P x (f ∷ fs) a = go (lt x f) a (all_of_insert P x fs)
     where
       go : (b : Bool) → All P (cond b (x ∷ f ∷ fs) (f ∷ insert lt x fs)) → (All P (insert lt x fs) → P x × All P fs) → P x × All P (f ∷ fs)
-      go true a i = a
-      go false a i = let r = i a.1 in (r.0, (a.0, r.1))
+      go true a i = (All-head P x (f ∷ fs) a, All-tail P x (f ∷ fs) a)
+      go false a i = let r = i (All-tail P f (insert lt x fs) a) in (r.0, All-cons P f fs (All-head P f (insert lt x fs) a) r.1)
 
   all_unsorted : (P : Slot → Type 0) (xs : List Slot) → All P (sorted lt xs) → All P xs
-  all_unsorted P [] a = tt
-  all_unsorted P (x ∷ xs) a = let r = all_of_insert P x (sorted lt xs) a in (r.0, all_unsorted P xs r.1)
+  all_unsorted P [] a = All-nil P
+  all_unsorted P (x ∷ xs) a = let r = all_of_insert P x (sorted lt xs) a in All-cons P x xs r.0 (all_unsorted P xs r.1)
 
   mine_first : (x : Slot) (xs : List Slot) → All (λ y. lt x y ≡ true) (sorted lt xs) → sorted lt (filter (lt x) (x ∷ xs)) ≡ sorted lt xs
   mine_first x xs a = rw (strict x) (ap (sorted lt) (kept_all (lt x) xs (all_unsorted (λ y. lt x y ≡ true) xs a)))
@@ -158,7 +158,7 @@ module _ (lt : Slot → Slot → Bool) (o : Ranks lt) where
           ∙ rw (o.total x f (λ m. let k : x.index < f.index = all_head (λ y. x.index < y.index) (sorted lt xs) f (ap head s) (all_sorted lt (λ y. x.index < y.index) xs r.0) in omega arith) l) (ap (insert lt x) (i ∙ ap tail s))
 
       go : (q : List Slot) → sorted lt xs ≡ q → head (insert lt x q) ≡ Some e → ((f : Slot) → head (sorted lt xs) ≡ Some f → sorted lt (filter (lt f) xs) ≡ tail (sorted lt xs)) → sorted lt (filter (lt e) (x ∷ xs)) ≡ tail (insert lt x q)
-      go [] s h i = at_first [] s (some_same x e h) tt
+      go [] s h i = at_first [] s (some_same x e h) (All-nil (λ y. lt x y ≡ true))
       go (f ∷ fs) s h i = by (lt x f) refl h
         where
           by : (b : Bool) → lt x f ≡ b → head (cond b (x ∷ f ∷ fs) (f ∷ insert lt x fs)) ≡ Some e → sorted lt (filter (lt e) (x ∷ xs)) ≡ tail (cond b (x ∷ f ∷ fs) (f ∷ insert lt x fs))

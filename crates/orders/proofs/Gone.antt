@@ -1,6 +1,6 @@
 -- Where the orders of a queue stand, and the queue once its first order is gone. Assumes nothing.
-use Rattle.std.proofs.Common.{◌≡◌, ℕ, zero, suc, ◌+◌, ◌<◌, ◌≤◌, Bool, true, false, cond, List, [], ◌∷◌, length, set, Some, None, All, filter, Option, sym, refl, ap, ◌∙◌, subst, arith, MatchOption}
-use Rattle.std.proofs.lemmas.List.Elements.{All-filter, All-weaker}
+use Rattle.std.proofs.Common.{◌≡◌, ℕ, zero, suc, ◌+◌, ◌<◌, ◌≤◌, Bool, true, false, cond, List, [], ◌∷◌, length, set, Some, None, All, filter, sym, refl, ap, ◌∙◌, subst, arith}
+use Rattle.std.proofs.lemmas.List.Elements.{All-cons, All-filter, All-head, All-nil, All-tail, All-weaker}
 use Rattle.orders.specs.Queue.{Slot, slot, slots, insert, sorted, head, counted, most_places}
 use Rattle.orders.specs.Rows.{free}
 use Rattle.orders.specs.declared.row.OrderRow.{OrderRow}
@@ -18,7 +18,7 @@ some_same a b e = cc
 
 pub all_head : (P : Slot → Type 0) (q : List Slot) (x : Slot) → head q ≡ Some x → All P q → P x
 all_head P [] x h a = absurd (none_some x h)
-all_head P (y ∷ ys) x h a = subst P (some_same y x h) a.0
+all_head P (y ∷ ys) x h a = subst P (some_same y x h) (All-head P y ys a)
 
 pub parts : (q : List Slot) (x : Slot) → head q ≡ Some x → q ≡ x ∷ tail q
 parts [] x h = absurd (none_some x h)
@@ -26,26 +26,25 @@ parts (y ∷ ys) x h = ap (λ z. z ∷ ys) (some_same y x h)
 
 module _ (lt : Slot → Slot → Bool) where
   pub all_insert : (P : Slot → Type 0) (x : Slot) (q : List Slot) → P x → All P q → All P (insert lt x q)
-  all_insert P x [] h a = (h, tt)
-  all_insert P x (y ∷ ys) h a = go (lt x y) (all_insert P x ys h a.1)
+  all_insert P x [] h a = All-cons P x [] h (All-nil P)
+  all_insert P x (y ∷ ys) h a = go (lt x y) (all_insert P x ys h (All-tail P y ys a))
     where
       go : (b : Bool) → All P (insert lt x ys) → All P (cond b (x ∷ y ∷ ys) (y ∷ insert lt x ys))
-      go true i = (h, a)
-      go false i = (a.0, i)
+      go true i = All-cons P x (y ∷ ys) h a
+      go false i = All-cons P y (insert lt x ys) (All-head P y ys a) i
 
   pub all_sorted : (P : Slot → Type 0) (xs : List Slot) → All P xs → All P (sorted lt xs)
-  all_sorted P [] a = tt
-  all_sorted P (x ∷ xs) a = all_insert P x (sorted lt xs) a.0 (all_sorted P xs a.1)
+  all_sorted P [] a = All-nil P
+  all_sorted P (x ∷ xs) a = all_insert P x (sorted lt xs) (All-head P x xs a) (all_sorted P xs (All-tail P x xs a))
 
 abbrev pub Within : ℕ → ℕ → Slot → Type 0
 Within k n x = (k ≤ x.index) × (x.index < k + n)
 
 pub slots_in : (k : ℕ) (rows : List OrderRow) → All (Within k (length rows)) (slots k rows)
-slots_in k [] = tt
-slots_in k (r ∷ rows) = (
-  (omega arith, omega arith),
-  All-weaker (Within (suc k) (length rows)) (Within k (suc (length rows))) (λ x h. (omega arith, omega arith)) (slots (suc k) rows) (slots_in (suc k) rows),
-)
+slots_in k [] = All-nil (Within k 0)
+slots_in k (r ∷ rows) =
+    All-cons (Within k (suc (length rows))) (slot k r) (slots (suc k) rows) (omega arith, omega arith)
+    (All-weaker (Within (suc k) (length rows)) (Within k (suc (length rows))) (λ x h. (omega arith, omega arith)) (slots (suc k) rows) (slots_in (suc k) rows))
 
 module _ (lt : Slot → Slot → Bool) (p : Slot → Bool) where
   pub part_in : (k : ℕ) (rows : List OrderRow) → All (Within k (length rows)) (part lt p k rows)
@@ -63,7 +62,7 @@ module _ (lt : Slot → Slot → Bool) (p : Slot → Bool) where
     where
       go : (b : Bool) (zs : List Slot) → head (cond b (x ∷ y ∷ ys) (y ∷ zs)) ≡ Some e → (y ∷ ys) ≡ tail (cond b (x ∷ y ∷ ys) (y ∷ zs))
       go true zs h = refl
-      go false zs h = absurd (a.0 (ap (λ (z : Slot). z.index) (some_same y e h)))
+      go false zs h = absurd (All-head (λ y. (y.index ≡ e.index → ⊥)) y ys a (ap (λ (z : Slot). z.index) (some_same y e h)))
 
   -- x was not the first, so e was
   other_gone : (x e : Slot) (q r : List Slot) → (x.index ≡ e.index → ⊥) → head (insert lt x q) ≡ Some e → (head q ≡ Some e → r ≡ tail q) → insert lt x r ≡ tail (insert lt x q)

@@ -1,5 +1,5 @@
 -- The head of a queue, place by place from the table's end. Assumes nothing.
-use Rattle.std.proofs.Common.{◌≡◌, ℕ, suc, ◌+◌, ◌<◌, ◌≤◌, min, Bool, true, false, cond, List, [], ◌∷◌, length, get_or, drop, set, Some, None, filter, Option, sym, refl, ap, ◌∙◌, add-one, arith, length-take, get_or-take}
+use Rattle.std.proofs.Common.{◌≡◌, ℕ, suc, ◌+◌, ◌<◌, ◌≤◌, min, Bool, true, false, cond, List, [], ◌∷◌, length, get_or, drop, set, Some, filter, Option, sym, refl, ap, ◌∙◌, add-one, arith, length-take, get_or-take}
 use lib.Seq.{take-set-lt}
 use Rattle.std.proofs.lemmas.List.{drop_more}
 use Rattle.orders.specs.Queue.{Slot, slot, slots, insert, sorted, head, lead, offer, counted, most_places}

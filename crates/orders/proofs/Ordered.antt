@@ -1,6 +1,6 @@
 -- Insertion sort puts every place before all that follow. Assumes the laws of a side.
-use Rattle.std.proofs.Common.{◌≡◌, ℕ, ◌<◌, Bool, true, false, cond, List, [], ◌∷◌, length, All, filter, sym, refl, ◌∙◌, arith}
-use Rattle.std.proofs.lemmas.List.Elements.{All-weaker}
+use Rattle.std.proofs.Common.{◌≡◌, ◌<◌, Bool, true, false, cond, List, [], ◌∷◌, All, sym, refl, ◌∙◌, arith}
+use Rattle.std.proofs.lemmas.List.Elements.{All-cons, All-head, All-nil, All-tail, All-weaker}
 use Rattle.std.proofs.lemmas.List.Sorted.{IsPermutation-refl, IsPermutation-cons, IsPermutation-swap, IsPermutation-trans}
 use Rattle.std.proofs.lemmas.Bool.{true≢false}
 use Rattle.std.specs.List.Sorted.{IsPermutation}
@@ -32,12 +32,12 @@ module _ (lt : Slot → Slot → Bool) (o : Ranks lt) where
   passes_on x y z h k = true_unless (lt x z) (λ f. true≢false (sym h ∙ o.chain x z y f (o.oneway y z k)))
 
   ordered_insert : (x : Slot) (q : List Slot) → All (λ y. (x.index ≡ y.index → ⊥)) q → InOrder lt q → InOrder lt (insert lt x q)
-  ordered_insert x [] a r = (tt, tt)
-  ordered_insert x (y ∷ ys) a r = go (lt x y) refl (ordered_insert x ys a.1 r.1)
+  ordered_insert x [] a r = (All-nil (λ y. lt x y ≡ true), tt)
+  ordered_insert x (y ∷ ys) a r = go (lt x y) refl (ordered_insert x ys (All-tail (λ z. (x.index ≡ z.index → ⊥)) y ys a) r.1)
     where
       go : (b : Bool) → lt x y ≡ b → InOrder lt (insert lt x ys) → InOrder lt (cond b (x ∷ y ∷ ys) (y ∷ insert lt x ys))
-      go true e i = ((e, All-weaker (λ z. lt y z ≡ true) (λ z. lt x z ≡ true) (λ z k. passes_on x y z e k) ys r.0), r)
-      go false e i = (all_insert lt (λ z. lt y z ≡ true) x ys (o.total x y a.0 e) r.0, i)
+      go true e i = (All-cons (λ z. lt x z ≡ true) y ys e (All-weaker (λ z. lt y z ≡ true) (λ z. lt x z ≡ true) (λ z k. passes_on x y z e k) ys r.0), r)
+      go false e i = (all_insert lt (λ z. lt y z ≡ true) x ys (o.total x y (All-head (λ z. (x.index ≡ z.index → ⊥)) y ys a) e) r.0, i)
 
   pub ordered_sorted : (xs : List Slot) → Rising xs → InOrder lt (sorted lt xs)
   ordered_sorted [] r = tt

@@ -1,13 +1,11 @@
-use Rattle.std.proofs.Common.{◌≡◌, ℕ, ◌+◌, Bool, not, length, Some, sym, refl, ap, ◌∙◌, arith, rules}
+use Rattle.std.proofs.Common.{◌≡◌, ℕ, ◌+◌, length, Some, sym, refl, ap, ◌∙◌, arith, rules}
 use Rattle.orders.specs.Queue.{counted}
 use Rattle.std.proofs.lemmas.Result.{err_from_is_err_and}
 use Rattle.terms.specs.Checked.{lots_left}
-use Rattle.terms.specs.Durations.{may_rest}
 use Rattle.terms.specs.declared.refusal.Refusal.TheVariants.{TableFull, TapeFull}
 use Rattle.book.specs.Entries.{planned, arriving_as, resting_row, settled}
 use Rattle.book.specs.Sweeps.{takes, Made, Unmade}
 use Rattle.book.specs.Walks.{Walk, matching}
-use Rattle.book.specs.declared.arriving.Arriving.{Arriving}
 use Rattle.book.proofs.Entered.{place_free, none_free, full_table, full_tape, no_stamp, none_fails}
 use Rattle.book.proofs.Numbered.{as_planned, due_planned, left_rests}
 use Rattle.book.proofs.entering.enter_against.Goals as goal
@@ -18,46 +16,46 @@ returns-in-Err g c =
     let full = c.in-Err.ensures in
     (full_table c.args.o.product c.args.products c.args.stamp table _ _ c.if-o-products.false (none_free c.args.products (counted table) full.1) ∙ ap (λ (n : ℕ). Some (TableFull n)) (sym full.0), refl, refl)
 
-pub returns-then-not-has-room : goal.returns-then-not-has-room
-returns-then-not-has-room g c =
+pub returns-then-not-has_room : goal.returns-then-not-has_room
+returns-then-not-has_room g c =
     let s = g.S.BookSide in
     let t = g.T.Tape in
     let o = c.args.o in
     let table = c.args.table.now in
     let tape = c.args.tape.now in
     let n = length (planned s.reaches s.code s.first o c.args.stamp c.args.range table).fills in
-    let same : c.due-trades-trades.result ≡ n =
-    c.due-trades-trades.ensures
-    ∙ ap (λ (w : Walk). length w.fills) (due_planned s.reaches s.code s.first o c.args.stamp 1 c.args.range table c.arriving.result c.may-rest-whole.result c.may-rest-whole.ensures c.arriving.ensures) in
+    let same : c.due_trades-trades.result ≡ n =
+    c.due_trades-trades.ensures
+    ∙ ap (λ (w : Walk). length w.fills) (due_planned s.reaches s.code s.first o c.args.stamp 1 c.args.range table c.arriving.result c.may_rest-whole.result c.may_rest-whole.ensures c.arriving.ensures) in
     let place = c.in-Ok.ensures in (
       full_tape o.product c.args.products c.args.stamp table (takes (t.space tape) (t.records tape) o.time n) n c.if-o-products.false (place_free c.args.products table c.in-Ok.index place.0 place.1)
-          (ap (takes (t.space tape) (t.records tape) o.time) (sym same) ∙ sym c.if-not-has-room.ensures)
+          (ap (takes (t.space tape) (t.records tape) o.time) (sym same) ∙ sym c.if-not-has_room.ensures)
           ∙ ap (λ (k : ℕ). Some (TapeFull k)) (sym same),
       refl,
       refl,
     )
 
-pub returns-in-default : goal.returns-in-default
-returns-in-default g c =
+pub returns-in_default : goal.returns-in_default
+returns-in_default g c =
     let s = g.S.BookSide in
     let t = g.T.Tape in
     let o = c.args.o in
     let table = c.args.table.now in
     let tape = c.args.tape.now in
     let n = length (planned s.reaches s.code s.first o c.args.stamp c.args.range table).fills in
-    let same : c.due-trades-trades.result ≡ n =
-    c.due-trades-trades.ensures
-    ∙ ap (λ (w : Walk). length w.fills) (due_planned s.reaches s.code s.first o c.args.stamp 1 c.args.range table c.arriving.result c.may-rest-whole.result c.may-rest-whole.ensures c.arriving.ensures) in
+    let same : c.due_trades-trades.result ≡ n =
+    c.due_trades-trades.ensures
+    ∙ ap (λ (w : Walk). length w.fills) (due_planned s.reaches s.code s.first o c.args.stamp 1 c.args.range table c.arriving.result c.may_rest-whole.result c.may_rest-whole.ensures c.arriving.ensures) in
     let place = c.in-Ok.ensures in (
       no_stamp o.product c.args.products c.args.stamp table (takes (t.space tape) (t.records tape) o.time n) n c.if-o-products.false (place_free c.args.products table c.in-Ok.index place.0 place.1)
-          (ap (takes (t.space tape) (t.records tape) o.time) (sym same) ∙ sym c.if-not-has-room.ensures) (search rules),
+          (ap (takes (t.space tape) (t.records tape) o.time) (sym same) ∙ sym c.if-not-has_room.ensures) (search rules),
       refl,
       refl,
     )
 
-pub returns-in-err-swept : goal.returns-in-err-swept
-returns-in-err-swept g c =
-    let p = err_from_is_err_and c.from-residual.result c.from-residual.ensures.1 in
+pub returns-in_err-swept : goal.returns-in_err-swept
+returns-in_err-swept g c =
+    let p = err_from_is_err_and c.from_residual.result c.from_residual.ensures.1 in
     let s = g.S.BookSide in
     let t = g.T.Tape in
     let o = c.args.o in
@@ -66,9 +64,9 @@ returns-in-err-swept g c =
     let number = c.in-Some.ensures in
     let place = c.in-Ok.ensures in
     let w = planned s.reaches s.code s.first o c.args.stamp c.args.range table in
-    let u : Unmade t.records t.space (arriving_as o (c.args.stamp + 1)) w table tape c.in-err-swept.field-0.0 c.sweep.new.table c.sweep.new.tape =
-    as_planned (λ a v. Unmade t.records t.space a v table tape c.in-err-swept.field-0.0 c.sweep.new.table c.sweep.new.tape)
-    s.reaches s.code s.first o c.args.stamp c.in-Some.number c.args.range table c.arriving-2.result c.may-rest-whole.result c.may-rest-whole.ensures c.arriving-2.ensures number.1 c.in-err-swept.ensures in
+    let u : Unmade t.records t.space (arriving_as o (c.args.stamp + 1)) w table tape c.in_err-swept.field-0.0 c.sweep.new.table c.sweep.new.tape =
+    as_planned (λ a v. Unmade t.records t.space a v table tape c.in_err-swept.field-0.0 c.sweep.new.table c.sweep.new.tape)
+    s.reaches s.code s.first o c.args.stamp c.in-Some.number c.args.range table c.arriving-2.result c.may_rest-whole.result c.may_rest-whole.ensures c.arriving-2.ensures number.1 c.in_err-swept.ensures in
     rw p.1 (
       full_tape o.product c.args.products c.args.stamp table (takes (t.space tape) (t.records tape) o.time (length w.fills)) (length w.fills) c.if-o-products.false (place_free c.args.products table c.in-Ok.index place.0 place.1) u.full
           ∙ ap (λ r. Some r) (sym (p.2 ∙ u.told)),
@@ -82,11 +80,11 @@ settle-requires g c =
     let t = g.T.Tape in
     let o = c.args.o in
     let number = c.in-Some.ensures in
-    let swept = c.in-ok-swept.ensures in
+    let swept = c.in_ok-swept.ensures in
     let w = matching s.reaches s.code s.first c.arriving-2.result c.args.range c.args.table.now in
     record {
       numbered = omega (arith, number.1);
-      lasting = λ some. sym c.may-rest-whole.ensures ∙ left_rests c.may-rest-whole.result w (rw swept.rest at some);
+      lasting = λ some. sym c.may_rest-whole.ensures ∙ left_rests c.may_rest-whole.result w (rw swept.rest at some);
     }
 
 pub returns : goal.returns
@@ -98,11 +96,11 @@ returns g c =
     let tape = c.args.tape.now in
     let number = c.in-Some.ensures in
     let place = c.in-Ok.ensures in
-    let swept = c.in-ok-swept.swept in
+    let swept = c.in_ok-swept.swept in
     let w = planned s.reaches s.code s.first o c.args.stamp c.args.range table in
     let m : Made t.records t.space s.code (arriving_as o (c.args.stamp + 1)) w table tape swept c.sweep.new.table c.sweep.new.tape =
     as_planned (λ a v. Made t.records t.space s.code a v table tape swept c.sweep.new.table c.sweep.new.tape)
-    s.reaches s.code s.first o c.args.stamp c.in-Some.number c.args.range table c.arriving-2.result c.may-rest-whole.result c.may-rest-whole.ensures c.arriving-2.ensures number.1 c.in-ok-swept.ensures in
+    s.reaches s.code s.first o c.args.stamp c.in-Some.number c.args.range table c.arriving-2.result c.may_rest-whole.result c.may_rest-whole.ensures c.arriving-2.ensures number.1 c.in_ok-swept.ensures in
     let left : c.lots.result ≡ lots_left swept.rest = c.lots.ensures in (
       none_fails o.product c.args.products c.args.stamp table (takes (t.space tape) (t.records tape) o.time (length w.fills)) (length w.fills) c.if-o-products.false (place_free c.args.products table c.in-Ok.index place.0 place.1) m.fits (omega (arith, number.0)),
       record {

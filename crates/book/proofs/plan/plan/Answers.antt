@@ -1,4 +1,4 @@
-use Rattle.std.proofs.Common.{◌≡◌, ℕ, ◌-◌, min, sym, ap, arith}
+use Rattle.std.proofs.Common.{◌≡◌, ◌-◌, min, sym, ap, arith}
 use Rattle.orders.specs.Queue.{slot_of}
 use Rattle.orders.proofs.Cursor.{ranks, next_behind}
 use Rattle.std.specs.Option.{option_map}
@@ -20,8 +20,8 @@ down-preserved g c =
     let st = step_down s.reaches c.args.range.low.ticks c.args.range.high.ticks c.args.a.limit.ticks q (lots_left c.less-rest.result) _ _ e first (λ z. omega (arith, some, c.in-Some.left.some)) c.if-not-reached.ensures (sym c.if-not-holds.ensures) left next in
     (left_on _ _ _ (fill_of e (min q e.row.rest)) c.down.trades c.down.invariant.0 st, omega (arith, some, c.less-rest.ensures, c.in-Some.left.some, c.in-Some-seek.e.order.rest.some, c.down.invariant.1))
 
-pub returns-in-default : goal.returns-in-default
-returns-in-default g c =
+pub returns-in_default : goal.returns-in_default
+returns-in_default g c =
     let s = g.S.BookSide in
     left_end _ _ (lots_left c.down.rest) _ c.down.trades c.down.invariant.0
-    (walk_none s.reaches c.args.range.low.ticks c.args.range.high.ticks c.args.a.limit.ticks (lots_left c.down.rest) _ (ap lots_left c.in-default.is))
+    (walk_none s.reaches c.args.range.low.ticks c.args.range.high.ticks c.args.a.limit.ticks (lots_left c.down.rest) _ (ap lots_left c.in_default.is))

@@ -1,4 +1,4 @@
-use Rattle.std.proofs.Common.{◌≡◌, ℕ, ◌-◌, ◌≤◌, min, [], ◌∷◌, ◌++◌, length, sym, ap, ◌∙◌, arith}
+use Rattle.std.proofs.Common.{◌≡◌, ◌-◌, min, [], ◌∷◌, ◌++◌, length, sym, ap, ◌∙◌, arith}
 use Rattle.orders.specs.Queue.{before, rests, slot_of}
 use Rattle.tape.specs.Tapes.{latest}
 use Rattle.tape.proofs.Times.{latest_push}
@@ -23,15 +23,15 @@ sweep-preserved g c =
     let room = ap (λ (w : Walk). length w.fills) st in
     let late : latest (records c.write.new.tape) ≡ c.args.a.time =
     ap latest c.write.ensures.records ∙ latest_push (records c.sweep.tape) _ ∙ ap (λ (r : TradeRow). r.time) c.traded.ensures in
-    rw c.left-row.ensures (
+    rw c.left_row.ensures (
       on,
       omega (arith, room, c.write.ensures.room, c.sweep.invariant.1),
       omega (arith, late),
       omega (arith, some, c.less-rest.ensures, c.least-m.ensures, c.in-Some.left.some, c.in-Some-seek.e.order.rest.some, c.sweep.invariant.3),
     )
 
-pub returns-in-default : goal.returns-in-default
-returns-in-default g c =
+pub returns-in_default : goal.returns-in_default
+returns-in_default g c =
     let s = g.S.BookSide in
     going_end _ (lots_left c.sweep.rest) _ c.sweep.table _ c.sweep.trades c.sweep.invariant.0
-    (walk_none s.reaches c.args.range.low.ticks c.args.range.high.ticks c.args.a.limit.ticks (lots_left c.sweep.rest) _ (ap lots_left c.in-default.is))
+    (walk_none s.reaches c.args.range.low.ticks c.args.range.high.ticks c.args.a.limit.ticks (lots_left c.sweep.rest) _ (ap lots_left c.in_default.is))

@@ -1,4 +1,4 @@
-use Rattle.std.proofs.Common.{◌≡◌, true, length, take, All, sym, ◌∙◌, arith}
+use Rattle.std.proofs.Common.{◌≡◌, true, take, sym, arith}
 use Rattle.std.proofs.lemmas.List.{take_all}
 use Rattle.std.proofs.lemmas.Bool.{not-true, not-false}
 use Rattle.orders.specs.Queue.{counted}
