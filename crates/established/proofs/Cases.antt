@@ -1,10 +1,10 @@
 -- Which step gives the price, and which product it goes on to. Assumes nothing.
-use Rattle.std.proofs.Common.{◌≡◌, ℕ, ◌<◌, eqb, Some, None, Ok, Option, unwrap_or, sym, refl, ap, ◌∙◌}
+use Rattle.std.proofs.Common.{◌≡◌, ℕ, ◌<◌, Some, None, Ok, Option, unwrap_or, sym, refl, ap, ◌∙◌}
 use Rattle.std.proofs.lemmas.Bool.{eq-eqb, ne_eqb}
 use Rattle.listing.proofs.Found.{listed_answers}
 use Rattle.listing.specs.Questions.{product_in, listed_check}
 use Rattle.listing.specs.declared.kind.Kind.{Kind}
-use Rattle.listing.specs.declared.kind.Kind.TheVariants.{Future, Option as AnOption}
+use Rattle.listing.specs.declared.kind.Kind.TheVariants.{Future}
 use Rattle.listing.specs.declared.product.Product.{Product}
 use Rattle.listing.specs.declared.products.Products.{Products}
 use Rattle.terms.proofs.Checked.{price_is}

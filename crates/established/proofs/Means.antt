@@ -2,7 +2,7 @@
 use Rattle.std.proofs.Common.{◌≡◌, ℕ, ◌*◌, ◌/◌, ◌≤◌, true, leb, List, [], ◌∷◌, All, ap, ◌∙◌, arith}
 use native.Mathlib.Nat.{div-le_of_le-mul}
 use Rattle.std.proofs.lemmas.Nat.{mul-le}
-use Rattle.std.proofs.lemmas.List.Elements.{All-filter, All-weaker}
+use Rattle.std.proofs.lemmas.List.Elements.{All-head, All-tail, All-filter, All-weaker}
 use Rattle.std.proofs.lemmas.List.Sums.{sum_by-cons}
 use Rattle.std.proofs.lemmas.Bool.{and_parts, leb-true}
 use Rattle.tape.specs.Ranges.{last_mark, last_product}
@@ -23,8 +23,8 @@ fair_price r h =
 turnover_most : (rows : List TradeRow) → All (λ r. r.price ≤ highest_price) rows → turnover rows ≤ volume rows * highest_price
 turnover_most [] a = omega arith
 turnover_most (r ∷ rows) a =
-    let more = turnover_most rows a.1 in
-    let one = mul-le r.price r.quantity highest_price r.quantity a.0 (omega arith) in
+    let more = turnover_most rows (All-tail (λ x. x.price ≤ highest_price) r rows a) in
+    let one = mul-le r.price r.quantity highest_price r.quantity (All-head (λ x. x.price ≤ highest_price) r rows a) (omega arith) in
     omega (arith, sum_by-cons worth r rows, sum_by-cons (λ x. x.quantity) r rows)
 
 -- over any fair records

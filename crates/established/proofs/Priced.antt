@@ -1,10 +1,10 @@
 -- An established market price is a price. Assumes nothing.
-use Rattle.std.proofs.Common.{◌≡◌, ℕ, zero, suc, ◌-◌, ◌<◌, ◌≤◌, Bool, true, false, cond, eqb, ltb, ◌⊎◌, List, [], ◌∷◌, length, get_or, IfSome, Some, None, Option, unwrap_or, sym, refl, ap, ◌∙◌, subst, inl, inr, ⊎_elim, arith}
+use Rattle.std.proofs.Common.{◌≡◌, ℕ, ◌-◌, ◌<◌, ◌≤◌, true, ltb, List, length, IfSome, Some, None, Option, unwrap_or, sym, refl, subst, ⊎_elim, arith}
 use Rattle.std.proofs.lemmas.List.Elements.{All-get_or}
 use Rattle.std.proofs.lemmas.List.{get_or_past}
 use Rattle.std.proofs.lemmas.Bool.{cond_both, cases_lt, cases_eq}
 use Rattle.std.specs.Option.{option_map}
-use Rattle.listing.proofs.Found.{OptionKeeps, option_keeps}
+use Rattle.listing.proofs.Found.{option_keeps}
 use Rattle.listing.specs.Questions.{product_in}
 use Rattle.listing.specs.declared.kind.Kind.{Kind}
 use Rattle.listing.specs.declared.kind.Kind.TheVariants.{Future, Option as AnOption}
@@ -20,10 +20,10 @@ use Rattle.tape.specs.declared.row.TradeRow.{TradeRow}
 use Rattle.terms.specs.Ranges.{highest_price}
 use Rattle.terms.specs.declared.price.Price.{Price}
 use Rattle.terms.specs.declared.right.Right.{Right}
-use Rattle.established.specs.Averages.{average, average_if, recent_average}
+use Rattle.established.specs.Averages.{average, recent_average}
 use Rattle.established.specs.Corrections.{lowered_to, corrected, corrected_in}
 use Rattle.established.specs.Days.{adjusted_since, worth_since, last_worth}
-use Rattle.established.specs.Established.{Moment, or_else, told_by_trades, established_from, month_worth, option_worth, established_spot, established_future, established_as, established}
+use Rattle.established.specs.Established.{Moment, or_else, told_by_trades, established_from, established_spot, established_future, established_as, established}
 use Rattle.established.proofs.Means.{fair_price, average_priced}
 use Rattle.established.proofs.Cases.{spot_is, future_spot, future_month, established_is}
 

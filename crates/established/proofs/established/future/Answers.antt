@@ -20,12 +20,12 @@ returns-in-None g c =
     let ps = c.args.products.now in
     let n = c.args.n in
     let m = moment c.args.table.now (g.T.Tape.records c.args.tape.now) c.args.day c.args.time in
-    let spot_reference = reference_found ps 0 _ _ ps.some c.spot-in-None.ensures c.reference-price-spot-reference.ensures in
-    let reference = reference_found ps n _ _ c.requires.listed c.requires.same c.reference-price.ensures in
+    let spot_reference = reference_found ps 0 _ _ ps.some c.spot-in-None.ensures c.reference_price-spot_reference.ensures in
+    let reference = reference_found ps n _ _ c.requires.listed c.requires.same c.reference_price.ensures in
     let worth : c.carried.result.ticks ≡ month_worth ps m n =
     c.carried.ensures
-    ∙ ap (λ (x : ℕ). carried x c.reference-price.result.ticks c.reference-price-spot-reference.result.ticks) c.spot-spot.ensures
-    ∙ ap (λ (x : ℕ). carried (established_spot ps m) x c.reference-price-spot-reference.result.ticks) reference
+    ∙ ap (λ (x : ℕ). carried x c.reference_price.result.ticks c.reference_price-spot_reference.result.ticks) c.spot-spot.ensures
+    ∙ ap (λ (x : ℕ). carried (established_spot ps m) x c.reference_price-spot_reference.result.ticks) reference
     ∙ ap (carried (established_spot ps m) (product_in ps n).reference) spot_reference in
     from_worth m n _ (product_in ps n) c.requires.same _ _ _ c.in-None.ensures worth c.corrected.ensures
     ∙ sym (future_month ps m n c.if-n-eq0.false)

@@ -15,5 +15,5 @@ pub returns-in-None : goal.returns-in-None
 returns-in-None g c =
     let ps = c.args.products.now in
     let m = moment c.args.table.now (g.T.Tape.records c.args.tape.now) c.args.day c.args.time in
-    let reference = reference_found ps 0 _ _ ps.some c.spot-product.ensures c.reference-price.ensures in
+    let reference = reference_found ps 0 _ _ ps.some c.spot-product.ensures c.reference_price.ensures in
     from_worth m 0 _ (product_in ps 0) c.spot-product.ensures _ _ _ c.in-None.ensures reference c.corrected.ensures ∙ sym (spot_is ps m)
