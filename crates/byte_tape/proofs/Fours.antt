@@ -1,8 +1,7 @@
 -- Numbers as four bytes, and a record's twelve. Assumes nothing.
-use Rattle.std.proofs.Common.{◌≡◌, ℕ, ◌+◌, ◌*◌, ◌/◌, ◌%◌, ◌^◌, ◌<◌, sym, ap, ◌∙◌, mod-eq_of_lt, div-add-mod', arith}
+use Rattle.std.proofs.Common.{◌≡◌, ℕ, ◌+◌, ◌*◌, ◌/◌, ◌%◌, ◌^◌, ◌<◌, sym, ◌∙◌, mod-eq_of_lt, div-add-mod', arith}
 use Rattle.std.proofs.lemmas.Nat.{shr-shr, div_below}
-use Rattle.byte_tape.specs.Bytes.{numbers, four, number_at, encoded, decoded, ComesBack}
-use Rattle.tape.specs.declared.row.TradeRow.{TradeRow}
+use Rattle.byte_tape.specs.Bytes.{ComesBack}
 
 joins : (n a b d w x y z : ℕ) → a * 256 + w ≡ n → b * 256 + x ≡ a → d * 256 + y ≡ b → z ≡ d → z * 16777216 + y * 65536 + x * 256 + w ≡ n
 joins n a b d w x y z p q r s = omega arith
@@ -18,16 +17,16 @@ four_back n fits =
 pub comes_back : ComesBack
 comes_back r fit =
     λ i. record {
-      product = four_back r.product fit.0 i;
-      time = four_back r.time fit.1.0 i;
-      price = four_back r.price fit.1.1.0 i;
-      quantity = four_back r.quantity fit.1.1.1.0 i;
-      buy = four_back r.buy fit.1.1.1.1.0 i;
-      sell = four_back r.sell fit.1.1.1.1.1.0 i;
-      buyer = four_back r.buyer fit.1.1.1.1.1.1.0 i;
-      seller = four_back r.seller fit.1.1.1.1.1.1.1.0 i;
-      established = four_back r.established fit.1.1.1.1.1.1.1.1.0 i;
-      no_bust = four_back r.no_bust fit.1.1.1.1.1.1.1.1.1.0 i;
-      mark = four_back r.mark fit.1.1.1.1.1.1.1.1.1.1.0 i;
-      day = four_back r.day fit.1.1.1.1.1.1.1.1.1.1.1.0 i;
+      product = four_back r.product (fit 0 0 (omega arith)) i;
+      time = four_back r.time (fit 1 0 (omega arith)) i;
+      price = four_back r.price (fit 2 0 (omega arith)) i;
+      quantity = four_back r.quantity (fit 3 0 (omega arith)) i;
+      buy = four_back r.buy (fit 4 0 (omega arith)) i;
+      sell = four_back r.sell (fit 5 0 (omega arith)) i;
+      buyer = four_back r.buyer (fit 6 0 (omega arith)) i;
+      seller = four_back r.seller (fit 7 0 (omega arith)) i;
+      established = four_back r.established (fit 8 0 (omega arith)) i;
+      no_bust = four_back r.no_bust (fit 9 0 (omega arith)) i;
+      mark = four_back r.mark (fit 10 0 (omega arith)) i;
+      day = four_back r.day (fit 11 0 (omega arith)) i;
     }

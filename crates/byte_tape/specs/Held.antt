@@ -1,7 +1,6 @@
 -- What lent bytes mean as a tape. Assumes nothing.
-use Rattle.std.specs.Prelude.{ℕ, ◌+◌, ◌-◌, ◌*◌, ◌/◌, ◌≤◌, min, List, length}
+use Rattle.std.specs.Prelude.{ℕ, ◌+◌, ◌-◌, ◌/◌, ◌≤◌, min, List, length}
 use Rattle.std.proofs.Common.{arith}
-use Rattle.std.proofs.lemmas.Nat.{le-div}
 use Rattle.terms.specs.declared.missing.Missing.{Missing}
 use Rattle.tape.proofs.Memory.{length_placed, fair_placed, rising_placed}
 use Rattle.tape.specs.Placed.{placed}

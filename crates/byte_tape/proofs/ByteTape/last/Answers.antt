@@ -6,4 +6,4 @@ use Rattle.tape.specs.declared.row.TradeRow.{TradeRow}
 
 pub returns : goal.returns
 returns c =
-    ap (λ (r : TradeRow). r.time) c.decode-at.ensures ∙ sym (latest_placed (place c.args.self.now) c.args.self.now.used (omega arith))
+    ap (λ (r : TradeRow). r.time) c.decode_at.ensures ∙ sym (latest_placed (place c.args.self.now) c.args.self.now.used (omega arith))

@@ -1,5 +1,4 @@
-use Rattle.std.proofs.Common.{◌≡◌, ℕ, ◌+◌, ◌-◌, ◌*◌, ◌^◌, ◌<◌, ◌≤◌, List, [], ◌∷◌, ◌++◌, length, get_or, take, All, sym, refl, ap, ◌∙◌, subst, arith, rules}
-use borrow.Rule.Slice.PartMut.{put_mid}
+use Rattle.std.proofs.Common.{◌≡◌, ℕ, ◌+◌, ◌-◌, ◌*◌, ◌^◌, ◌<◌, List, [], ◌++◌, length, get_or, take, All, sym, ap, ◌∙◌, subst, arith, rules}
 use Rattle.byte_tape.proofs.Fours.{comes_back}
 use Rattle.byte_tape.proofs.codec.encode.Goals as goal
 use Rattle.byte_tape.specs.Bytes.{numbers, four, encoded, decoded}
@@ -12,8 +11,8 @@ loop-i-preserved c =
     let bytes = c.loop-i.bytes in
     let i = c.loop-i.i in
     let ns = c.numbers-numbers.result in
-    let part = c.copy-from-slice.new.self in
-    let is : part ≡ four (get_or ns i 0) = c.copy-from-slice.ensures.after ∙ c.to-be-bytes.ensures in
+    let part = c.copy_from_slice.new.self in
+    let is : part ≡ four (get_or ns i 0) = c.copy_from_slice.ensures.after ∙ c.to_be_bytes.ensures in
     let long : length part ≡ 4 = ap length is in
     let many : length ns ≡ 12 = ap length c.numbers-numbers.ensures.value in (
       search (rules, places),

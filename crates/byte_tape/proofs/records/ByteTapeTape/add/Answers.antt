@@ -8,8 +8,8 @@ use Rattle.tape.specs.Tapes.{latest}
 use Rattle.tape.specs.Trades.{row_of}
 use Rattle.tape.specs.declared.row.TradeRow.{TradeRow}
 
-pub invariant-of-self : goal.invariant-of-self
-invariant-of-self c =
+pub invariant_of-self : goal.invariant_of-self
+invariant_of-self c =
     let tape = c.args.self.now in
     let after = c.write.new.self in
     let row = c.row.result in
@@ -18,16 +18,13 @@ invariant-of-self c =
     let before : latest (placed (place after) after.used) ≡ latest (held tape) =
     ap latest (ap (placed (place after)) used ∙ placed_same (place tape) (place after) tape.used c.write.ensures.below) in
     let time : (place after after.used).time ≡ c.args.trade.time = ap (λ (r : TradeRow). r.time) (here ∙ c.row.ensures.value) in
-    let timely : latest (placed (place after) after.used) ≤ (place after after.used).time = omega arith in (
-      omega arith,
-      (
-        omega arith,
-        (
-          fair_push (place after) (place after) after.used after.fair (λ k lt. refl) (rw here c.row.ensures.kept),
-          (rising_push (place after) (place after) after.used after.rising (λ k lt. refl) timely, tt),
-        ),
-      ),
-    )
+    let timely : latest (placed (place after) after.used) ≤ (place after after.used).time = omega arith in
+    record {
+      within = omega arith;
+      few = omega arith;
+      fair = fair_push (place after) (place after) after.used after.fair (λ k lt. refl) (rw here c.row.ensures.kept);
+      rising = rising_push (place after) (place after) after.used after.rising (λ k lt. refl) timely;
+    }
 
 pub returns : goal.returns
 returns c =

@@ -20,8 +20,8 @@ returns-then-n-lt1 c =
       tells = search rules;
     }
 
-pub invariant-of-self : goal.invariant-of-self
-invariant-of-self c =
+pub invariant_of-self : goal.invariant_of-self
+invariant_of-self c =
     let tape = c.args.self.now in
     let bytes = tape.bytes.now in
     let i = c.args.n - 1 in
@@ -29,16 +29,13 @@ invariant-of-self c =
     let here = marked_here bytes (record_bytes * i) m (omega arith) (fair_mark (place tape i) (tape.fair i (omega arith))) in
     let is = ap (λ (k : ℕ). with_mark k (place tape i)) c.number.ensures.value in
     let others = elsewhere bytes i 43 m (omega arith) in
-    let after = record_in (set bytes (record_bytes * i + 43) m) in (
-      simp length-set (omega arith),
-      (
-        omega arith,
-        (
-          fair_set (place tape) after tape.used i tape.fair others (rw (here, is) (fair_marked (place tape i) c.args.mark (tape.fair i (omega arith)))),
-          (rising_set (place tape) after tape.used i tape.rising others (ap (λ (r : TradeRow). r.time) here), tt),
-        ),
-      ),
-    )
+    let after = record_in (set bytes (record_bytes * i + 43) m) in
+    record {
+      within = simp length-set (omega arith);
+      few = omega arith;
+      fair = fair_set (place tape) after tape.used i tape.fair others (rw (here, is) (fair_marked (place tape i) c.args.mark (tape.fair i (omega arith))));
+      rising = rising_set (place tape) after tape.used i tape.rising others (ap (λ (r : TradeRow). r.time) here);
+    }
 
 pub returns : goal.returns
 returns c =

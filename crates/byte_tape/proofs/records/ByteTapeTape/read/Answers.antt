@@ -17,8 +17,8 @@ returns-then-n-lt1 c =
 pub returns : goal.returns
 returns c =
     record {
-      answer = rw c.ok-or.ensures.value
+      answer = rw c.ok_or.ensures.value
           (reads_placed (place c.args.self.now) c.args.self.now.used c.args.n lacking _ refl c.if-n-lt1.false c.if-n-self.false c.args.self.now.fair c.trade.result
-          (subst (λ (r : TradeRow). Checks r c.trade.result) c.decode-at.ensures c.trade.ensures));
+          (subst (λ (r : TradeRow). Checks r c.trade.result) c.decode_at.ensures c.trade.ensures));
       tells = search rules;
     }

@@ -18,24 +18,21 @@ returns-then-n-lt1 c =
       tells = search rules;
     }
 
-pub invariant-of-self : goal.invariant-of-self
-invariant-of-self c =
+pub invariant_of-self : goal.invariant_of-self
+invariant_of-self c =
     let tape = c.args.self.now in
     let rows = tape.rows.now in
     let i = c.args.n - 1 in
     let row = with_mark c.number.result (place tape i) in
     let lt : i < length rows = omega arith in
     let is : row ≡ marked c.args.mark (place tape i) = ap (λ (m : ℕ). with_mark m (place tape i)) c.number.ensures.value in
-    let at = here rows i row lt in (
-      simp length-set (omega arith),
-      (
-        omega arith,
-        (
-          fair_set (place tape) (rewritten rows i row) tape.used i tape.fair (others rows i row) (rw (at, is) (fair_marked (place tape i) c.args.mark (tape.fair i (omega arith)))),
-          (rising_set (place tape) (rewritten rows i row) tape.used i tape.rising (others rows i row) (rw at refl), tt),
-        ),
-      ),
-    )
+    let at = here rows i row lt in
+    record {
+      within = simp length-set (omega arith);
+      few = omega arith;
+      fair = fair_set (place tape) (rewritten rows i row) tape.used i tape.fair (others rows i row) (rw (at, is) (fair_marked (place tape i) c.args.mark (tape.fair i (omega arith))));
+      rising = rising_set (place tape) (rewritten rows i row) tape.used i tape.rising (others rows i row) (rw at refl);
+    }
 
 pub returns : goal.returns
 returns c =
