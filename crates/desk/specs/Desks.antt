@@ -1,5 +1,5 @@
 -- What a desk refuses, answers and becomes. Assumes nothing.
-use Rattle.std.specs.Prelude.{ℕ, Bool, true, false, ◌&&◌, List, [], ◌∷◌, Some, None, Ok, Err, Option, Result, nat_le}
+use Rattle.std.specs.Prelude.{ℕ, Bool, false, ◌&&◌, List, [], ◌∷◌, Some, None, Ok, Err, Option, Result, nat_le}
 use Rattle.limits.specs.Ranges.{tradeable_range}
 use Rattle.limits.specs.declared.range.Range.{Range}
 use Rattle.orders.specs.Questions.{best_buy, best_sell}

@@ -1,5 +1,5 @@
 -- An order at the desk: its checks, and what it comes in as. Assumes nothing.
-use Rattle.std.specs.Prelude.{◌≡◌, ℕ, ◌≤◌, Bool, not, ◌&&◌, ◌||◌, List, [], ◌∷◌, is_some, Some, None, Ok, Err, Option, Result, nat_le}
+use Rattle.std.specs.Prelude.{◌≡◌, ℕ, ◌≤◌, Bool, not, ◌&&◌, List, [], ◌∷◌, is_some, Some, None, Ok, Err, Option, Result, nat_le}
 use Rattle.std.proofs.Common.{arith}
 use Rattle.book.specs.Entries.{EntersFrom}
 use Rattle.book.specs.declared.incoming.Incoming.{Incoming}
@@ -12,7 +12,7 @@ use Rattle.orders.specs.declared.row.OrderRow.{OrderRow}
 use Rattle.tape.specs.Ranges.{last_product, widest_no_bust}
 use Rattle.tape.specs.declared.row.TradeRow.{TradeRow}
 use Rattle.terms.specs.Checked.{price_at, quantity_at, participant_at}
-use Rattle.terms.specs.Checks.{unless, earliest, answered}
+use Rattle.terms.specs.Checks.{unless, earliest}
 use Rattle.terms.specs.Ranges.{highest_price, largest_quantity, last_participant}
 use Rattle.terms.specs.declared.field.Field.TheVariants.{Price as the_price, Quantity as the_quantity, Participant as the_participant}
 use Rattle.terms.specs.declared.participant.Participant.{Participant}
