@@ -1,5 +1,5 @@
 -- What becomes of an arriving order. Assumes nothing.
-use Rattle.std.specs.Prelude.{◌≡◌, ℕ, Bool, true, false, cond, not, ◌&&◌, ◌||◌, List, [], ◌++◌, map, length, Ok, Err, sum_by, Result, ◌==◌, nat_le}
+use Rattle.std.specs.Prelude.{◌≡◌, ℕ, ◌+◌, ◌≤◌, Bool, true, false, cond, not, ◌&&◌, ◌||◌, List, [], ◌++◌, map, length, Ok, Err, sum_by, Result, ◌==◌, nat_le}
 use Rattle.orders.specs.declared.row.OrderRow.{OrderRow}
 use Rattle.tape.specs.Tapes.{latest}
 use Rattle.tape.specs.declared.row.TradeRow.{TradeRow}
@@ -23,6 +23,10 @@ lots_filled fills = sum_by (λ f. f.quantity) fills
 -- so many trades at this time go on a tape with this room
 abbrev pub takes : ℕ → List TradeRow → ℕ → ℕ → Bool
 takes space records time trades = trades == 0 || (nat_le trades space && nat_le (latest records) time)
+
+-- each trade takes at most one place of the room, and nothing gives room back
+abbrev pub RoomLeft : ℕ → ℕ → ℕ → Type 0
+RoomLeft before trades after = (after ≤ before) × (before ≤ after + trades)
 
 module _ {T : Type 0} (records : T → List TradeRow) (space : T → ℕ) where
   -- the fills are made, in the table and on the tape

@@ -132,7 +132,7 @@ pub(crate) fn lots(rest: Option<Quantity>) -> u32
 }
 
 // Whether the tape takes so many trades at this time.
-pub(crate) fn has_room<T: Tape>(tape: &T, time: u32, trades: u32) -> bool
+pub fn has_room<T: Tape>(tape: &T, time: u32, trades: u32) -> bool
 where
     Refusal: From<T::Fault>,
     ensures { result ≡ takes (T.Tape.space tape.now) (T.Tape.records tape.now) time trades }

@@ -1,5 +1,5 @@
 -- Product by product: the checks from one on are its own and those of the next ones. Assumes nothing.
-use Rattle.std.proofs.Common.{◌≡◌, ℕ, suc, ◌+◌, ◌-◌, ◌<◌, ◌≤◌, List, [], ◌∷◌, map, Some, None, Option, sym, refl, ap, ◌∙◌, subst, arith}
+use Rattle.std.proofs.Common.{◌≡◌, ℕ, suc, ◌+◌, ◌-◌, ◌<◌, ◌≤◌, map, None, Option, ap, arith}
 use Rattle.std.specs.List.{range_with_len}
 use Rattle.terms.specs.Checks.{earliest, first_of}
 use Rattle.terms.specs.declared.refusal.Refusal.{Refusal}
