@@ -9,6 +9,7 @@ use Rattle.orders.specs.Queue.{Slot, slot, head, counted, rests}
 use Rattle.orders.specs.Rows.{fair, free}
 use Rattle.orders.specs.declared.row.OrderRow.{OrderRow}
 use Rattle.tape.specs.declared.row.TradeRow.{TradeRow}
+use Rattle.book.specs.Sweeps.{RoomLeft}
 use Rattle.book.specs.Walks.{Fill, Walk, stop, fill_of, fill_then, walk, row_left, filled}
 
 module _ (reaches : ℕ → ℕ → Bool) (lo hi limit : ℕ) where
@@ -59,10 +60,10 @@ module _ {trade : Fill → TradeRow} {w0 : Walk} {t0 : List OrderRow} {s0 : List
         trades = omega (arith, k.trades);
       }
 
-  pub going_end : (w : Walk) (q : ℕ) (h : Bool) (t : List OrderRow) (s : List TradeRow) (n : ℕ) → Going trade w0 t0 s0 w t s n → w ≡ stop q h → record { table : t ≡ filled w0.fills t0; tape : s ≡ s0 ++ map trade w0.fills; trades : n ≡ length w0.fills; rest : q ≡ w0.rest; halted : h ≡ w0.halted }
-  going_end w q h t s n k e =
+  pub going_end : (w : Walk) (q : ℕ) (h : Bool) (t : List OrderRow) (s : List TradeRow) (n before after : ℕ) → Going trade w0 t0 s0 w t s n → RoomLeft before n after → w ≡ stop q h → record { table : t ≡ filled w0.fills t0; tape : s ≡ s0 ++ map trade w0.fills; room : RoomLeft before (length w0.fills) after; trades : n ≡ length w0.fills; rest : q ≡ w0.rest; halted : h ≡ w0.halted }
+  going_end w q h t s n before after k room e =
       let j : Going trade w0 t0 s0 (stop q h) t s n = subst (λ (v : Walk). Going trade w0 t0 s0 v t s n) e k in
-      record { table = j.table; tape = sym (append-nil s) ∙ j.tape; trades = omega (arith, j.trades); rest = j.rest; halted = j.halted }
+      record { table = j.table; tape = sym (append-nil s) ∙ j.tape; room = (room.0, omega (arith, j.trades, room.1)); trades = omega (arith, j.trades); rest = j.rest; halted = j.halted }
 
   pub going_on : (w v : Walk) (f : Fill) (t : List OrderRow) (s r : List TradeRow) (n : ℕ) → Going trade w0 t0 s0 w t s n → w ≡ fill_then f v → r ≡ s ++ trade f ∷ [] → Going trade w0 t0 s0 v (set t f.slot.index (row_left f.slot.row f.quantity)) r (n + 1)
   going_on w v f t s r n k e x =

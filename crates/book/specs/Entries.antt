@@ -109,3 +109,8 @@ module _ (reaches : ℕ → ℕ → Bool) (code : ℕ) (first : OrderRow → Ord
 abbrev pub EntersFrom : {T : Type 0} → (T → List TradeRow) → (T → ℕ) → ℕ → ℕ → Side → Incoming → Range → List OrderRow → T → Result Receipt Refusal → List OrderRow → T → Type 0
 EntersFrom records space products stamp Buy = Enters (λ limit price. nat_le price limit) 1 lower_first records space products stamp Buy
 EntersFrom records space products stamp Sell = Enters (λ limit price. nat_le limit price) 0 higher_first records space products stamp Sell
+
+-- how many trades an entry tells; a refusal tells none
+abbrev pub trades_entered : Result Receipt Refusal → ℕ
+trades_entered (Ok receipt) = receipt.trades
+trades_entered (Err refusal) = 0

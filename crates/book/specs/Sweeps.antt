@@ -49,3 +49,8 @@ module _ {T : Type 0} (records : T → List TradeRow) (space : T → ℕ) where
   abbrev pub Sweeps : ℕ → Arriving → Walk → List OrderRow → T → Result Swept Refusal → List OrderRow → T → Type 0
   Sweeps code a w table tape (Ok answer) table' tape' = Made code a w table tape answer table' tape'
   Sweeps code a w table tape (Err refusal) table' tape' = Unmade a w table tape refusal table' tape'
+
+-- how many trades an answer tells; a refusal tells none
+abbrev pub trades_told : Result Swept Refusal → ℕ
+trades_told (Ok answer) = answer.trades
+trades_told (Err refusal) = 0

@@ -2,8 +2,8 @@
 ghost use Rattle.std.specs.Prelude.{◌≡◌, ℕ, ◌<◌, ◌≤◌, true, length};
 ghost use Rattle.terms.specs.Checked.{lots_left};
 ghost use Rattle.terms.specs.Durations.{may_rest};
-ghost use Rattle.book.specs.Entries.{Enters, EntersFrom, resting_row, settled};
-ghost use Rattle.book.specs.Sweeps.{due};
+ghost use Rattle.book.specs.Entries.{trades_entered, Enters, EntersFrom, resting_row, settled};
+ghost use Rattle.book.specs.Sweeps.{RoomLeft, due};
 ghost use Rattle.book.specs.Walks.{matching};
 
 use crate::arriving::Arriving;
@@ -63,7 +63,8 @@ fn enter_against<S: BookSide, T: Tape>(
 ) -> Result<Receipt, Refusal>
 where
     Refusal: From<T::Fault>,
-    ensures { Enters S.BookSide.reaches S.BookSide.code S.BookSide.first T.Tape.records T.Tape.space products stamp side o range table.old tape.old result table.new tape.new }
+    ensures entered { Enters S.BookSide.reaches S.BookSide.code S.BookSide.first T.Tape.records T.Tape.space products stamp side o range table.old tape.old result table.new tape.new }
+    ensures room { RoomLeft (T.Tape.space tape.old) (trades_entered result) (T.Tape.space tape.new) }
 {
     if o.product >= products {
         return Err(Refusal::NotListed(o.product));
@@ -103,7 +104,8 @@ pub fn enter<T: Tape>(
 ) -> Result<Receipt, Refusal>
 where
     Refusal: From<T::Fault>,
-    ensures { EntersFrom T.Tape.records T.Tape.space products stamp side o range table.old tape.old result table.new tape.new }
+    ensures entered { EntersFrom T.Tape.records T.Tape.space products stamp side o range table.old tape.old result table.new tape.new }
+    ensures room { RoomLeft (T.Tape.space tape.old) (trades_entered result) (T.Tape.space tape.new) }
 {
     match side {
         Side::Buy => enter_against::<Sells, T>(table, tape, products, stamp, side, o, range),

@@ -5,7 +5,7 @@ ghost use Rattle.orders.specs.Queue.{slot};
 ghost use Rattle.tape.specs.Tapes.{latest};
 ghost use Rattle.tape.specs.Trades.{row_of};
 ghost use Rattle.terms.specs.Checked.{lots_left};
-ghost use Rattle.book.specs.Sweeps.{takes, due, Sweeps};
+ghost use Rattle.book.specs.Sweeps.{RoomLeft, trades_told, takes, due, Sweeps};
 ghost use Rattle.book.specs.Walks.{matching, fill_of, row_left, filled, trade_by};
 
 use crate::arriving::Arriving;
@@ -69,7 +69,7 @@ where
     requires room { 0 < T.Tape.space tape.old }
     requires time { latest (T.Tape.records tape.old) ≤ trade.time }
     ensures records { T.Tape.records tape.new ≡ T.Tape.records tape.old ++ row_of trade ∷ [] }
-    ensures room { T.Tape.space tape.old ≤ T.Tape.space tape.new + 1 }
+    ensures room { RoomLeft (T.Tape.space tape.old) 1 (T.Tape.space tape.new) }
 {
     match tape.add(trade) {
         Ok(()) => {}
@@ -90,6 +90,7 @@ where
     requires time { latest (T.Tape.records tape.old) ≤ a.time }
     ensures table { table.new ≡ filled (matching S.BookSide.reaches S.BookSide.code S.BookSide.first a range table.old).fills table.old }
     ensures tape { T.Tape.records tape.new ≡ T.Tape.records tape.old ++ map (trade_by S.BookSide.code a) (matching S.BookSide.reaches S.BookSide.code S.BookSide.first a range table.old).fills }
+    ensures room { RoomLeft (T.Tape.space tape.old) (length (matching S.BookSide.reaches S.BookSide.code S.BookSide.first a range table.old).fills) (T.Tape.space tape.new) }
     ensures trades { result.trades ≡ length (matching S.BookSide.reaches S.BookSide.code S.BookSide.first a range table.old).fills }
     ensures rest { lots_left result.rest ≡ (matching S.BookSide.reaches S.BookSide.code S.BookSide.first a range table.old).rest }
     ensures halted { result.halted ≡ (matching S.BookSide.reaches S.BookSide.code S.BookSide.first a range table.old).halted }
@@ -150,7 +151,8 @@ pub fn sweep<S: BookSide, T: Tape>(
 ) -> Result<Swept, Refusal>
 where
     Refusal: From<T::Fault>,
-    ensures { Sweeps T.Tape.records T.Tape.space S.BookSide.code a (due whole (matching S.BookSide.reaches S.BookSide.code S.BookSide.first a range table.old)) table.old tape.old result table.new tape.new }
+    ensures made { Sweeps T.Tape.records T.Tape.space S.BookSide.code a (due whole (matching S.BookSide.reaches S.BookSide.code S.BookSide.first a range table.old)) table.old tape.old result table.new tape.new }
+    ensures room { RoomLeft (T.Tape.space tape.old) (trades_told result) (T.Tape.space tape.new) }
 {
     let planned = plan::<S>(table, a, range);
     if whole & planned.rest.is_some() {

@@ -10,14 +10,14 @@ use Rattle.book.proofs.Entered.{place_free, none_free, full_table, full_tape, no
 use Rattle.book.proofs.Numbered.{as_planned, due_planned, left_rests}
 use Rattle.book.proofs.entering.enter_against.Goals as goal
 
-pub returns-in-Err : goal.returns-in-Err
-returns-in-Err g c =
+pub returns-in-Err-clause-entered : goal.returns-in-Err-clause-entered
+returns-in-Err-clause-entered g c =
     let table = c.args.table.now in
     let full = c.in-Err.ensures in
     (full_table c.args.o.product c.args.products c.args.stamp table _ _ c.if-o-products.false (none_free c.args.products (counted table) full.1) ∙ ap (λ (n : ℕ). Some (TableFull n)) (sym full.0), refl, refl)
 
-pub returns-then-not-has_room : goal.returns-then-not-has_room
-returns-then-not-has_room g c =
+pub returns-then-not-has_room-clause-entered : goal.returns-then-not-has_room-clause-entered
+returns-then-not-has_room-clause-entered g c =
     let s = g.S.BookSide in
     let t = g.T.Tape in
     let o = c.args.o in
@@ -35,8 +35,8 @@ returns-then-not-has_room g c =
       refl,
     )
 
-pub returns-in_default : goal.returns-in_default
-returns-in_default g c =
+pub returns-in_default-clause-entered : goal.returns-in_default-clause-entered
+returns-in_default-clause-entered g c =
     let s = g.S.BookSide in
     let t = g.T.Tape in
     let o = c.args.o in
@@ -53,8 +53,8 @@ returns-in_default g c =
       refl,
     )
 
-pub returns-in_err-swept : goal.returns-in_err-swept
-returns-in_err-swept g c =
+pub returns-in_err-swept-clause-entered : goal.returns-in_err-swept-clause-entered
+returns-in_err-swept-clause-entered g c =
     let p = err_from_is_err_and c.from_residual.result c.from_residual.ensures.1 in
     let s = g.S.BookSide in
     let t = g.T.Tape in
@@ -66,7 +66,7 @@ returns-in_err-swept g c =
     let w = planned s.reaches s.code s.first o c.args.stamp c.args.range table in
     let u : Unmade t.records t.space (arriving_as o (c.args.stamp + 1)) w table tape c.in_err-swept.field-0.0 c.sweep.new.table c.sweep.new.tape =
     as_planned (λ a v. Unmade t.records t.space a v table tape c.in_err-swept.field-0.0 c.sweep.new.table c.sweep.new.tape)
-    s.reaches s.code s.first o c.args.stamp c.in-Some.number c.args.range table c.arriving-2.result c.may_rest-whole.result c.may_rest-whole.ensures c.arriving-2.ensures number.1 c.in_err-swept.ensures in
+    s.reaches s.code s.first o c.args.stamp c.in-Some.number c.args.range table c.arriving-2.result c.may_rest-whole.result c.may_rest-whole.ensures c.arriving-2.ensures number.1 c.in_err-swept.ensures.made in
     rw p.1 (
       full_tape o.product c.args.products c.args.stamp table (takes (t.space tape) (t.records tape) o.time (length w.fills)) (length w.fills) c.if-o-products.false (place_free c.args.products table c.in-Ok.index place.0 place.1) u.full
           ∙ ap (λ r. Some r) (sym (p.2 ∙ u.told)),
@@ -80,15 +80,15 @@ settle-requires g c =
     let t = g.T.Tape in
     let o = c.args.o in
     let number = c.in-Some.ensures in
-    let swept = c.in_ok-swept.ensures in
+    let swept = c.in_ok-swept.ensures.made in
     let w = matching s.reaches s.code s.first c.arriving-2.result c.args.range c.args.table.now in
     record {
       numbered = omega (arith, number.1);
       lasting = λ some. sym c.may_rest-whole.ensures ∙ left_rests c.may_rest-whole.result w (rw swept.rest at some);
     }
 
-pub returns : goal.returns
-returns g c =
+pub returns-clause-entered : goal.returns-clause-entered
+returns-clause-entered g c =
     let s = g.S.BookSide in
     let t = g.T.Tape in
     let o = c.args.o in
@@ -100,7 +100,7 @@ returns g c =
     let w = planned s.reaches s.code s.first o c.args.stamp c.args.range table in
     let m : Made t.records t.space s.code (arriving_as o (c.args.stamp + 1)) w table tape swept c.sweep.new.table c.sweep.new.tape =
     as_planned (λ a v. Made t.records t.space s.code a v table tape swept c.sweep.new.table c.sweep.new.tape)
-    s.reaches s.code s.first o c.args.stamp c.in-Some.number c.args.range table c.arriving-2.result c.may_rest-whole.result c.may_rest-whole.ensures c.arriving-2.ensures number.1 c.in_ok-swept.ensures in
+    s.reaches s.code s.first o c.args.stamp c.in-Some.number c.args.range table c.arriving-2.result c.may_rest-whole.result c.may_rest-whole.ensures c.arriving-2.ensures number.1 c.in_ok-swept.ensures.made in
     let left : c.lots.result ≡ lots_left swept.rest = c.lots.ensures in (
       none_fails o.product c.args.products c.args.stamp table (takes (t.space tape) (t.records tape) o.time (length w.fills)) (length w.fills) c.if-o-products.false (place_free c.args.products table c.in-Ok.index place.0 place.1) m.fits (omega (arith, number.0)),
       record {

@@ -25,13 +25,14 @@ sweep-preserved g c =
     ap latest c.write.ensures.records ∙ latest_push (records c.sweep.tape) _ ∙ ap (λ (r : TradeRow). r.time) c.traded.ensures in
     rw c.left_row.ensures (
       on,
-      omega (arith, room, c.write.ensures.room, c.sweep.invariant.1),
+      omega (arith, room, c.write.ensures.room.1, c.sweep.invariant.1),
       omega (arith, late),
       omega (arith, some, c.less-rest.ensures, c.least-m.ensures, c.in-Some.left.some, c.in-Some-seek.e.order.rest.some, c.sweep.invariant.3),
+      (omega (arith, c.write.ensures.room.0, c.sweep.invariant.4.0), omega (arith, c.write.ensures.room.1, c.sweep.invariant.4.1)),
     )
 
 pub returns-in_default : goal.returns-in_default
 returns-in_default g c =
     let s = g.S.BookSide in
-    going_end _ (lots_left c.sweep.rest) _ c.sweep.table _ c.sweep.trades c.sweep.invariant.0
+    going_end _ (lots_left c.sweep.rest) _ c.sweep.table _ c.sweep.trades _ _ c.sweep.invariant.0 c.sweep.invariant.4
     (walk_none s.reaches c.args.range.low.ticks c.args.range.high.ticks c.args.a.limit.ticks (lots_left c.sweep.rest) _ (ap lots_left c.in_default.is))

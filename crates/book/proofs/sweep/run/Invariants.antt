@@ -2,6 +2,7 @@ use Rattle.std.proofs.Common.{◌+◌, ◌≤◌, length}
 use Rattle.orders.specs.Queue.{queue}
 use Rattle.tape.specs.Tapes.{latest}
 use Rattle.terms.specs.Checked.{lots_left}
+use Rattle.book.specs.Sweeps.{RoomLeft}
 use Rattle.book.specs.Walks.{walk, trade_by}
 use Rattle.book.proofs.Walking.{Going}
 use Rattle.book.proofs.sweep.run.Given as goal
@@ -20,6 +21,7 @@ invariant-sweep g l =
     × (length (walk s.reaches low high l.a.limit.ticks (lots_left l.rest) (queue s.code s.first l.a.product l.table)).fills ≤ t.space l.tape)
     × (latest (t.records l.tape) ≤ l.a.time)
     × (l.trades + lots_left l.rest ≤ l.a.quantity.lots)
+    × RoomLeft (t.space l.initial.tape) l.trades (t.space l.tape)
 
 abbrev pub decreases-sweep : goal.decreases-sweep
 decreases-sweep g l = lots_left l.rest

@@ -7,8 +7,8 @@ use Rattle.book.specs.declared.outcome.Swept.{Swept}
 use Rattle.book.proofs.Conserved.{walk_conserves, not_killed, made_none, made_run}
 use Rattle.book.proofs.sweep.sweep.Goals as goal
 
-pub returns-then-planned-eq0 : goal.returns-then-planned-eq0
-returns-then-planned-eq0 g c =
+pub returns-then-planned-eq0-clause-made : goal.returns-then-planned-eq0-clause-made
+returns-then-planned-eq0-clause-made g c =
     let s = g.S.BookSide in
     let t = g.T.Tape in
     let a = c.args.a in
@@ -26,8 +26,8 @@ overflow_sub-result g c =
     let whole = walk_conserves s.reaches c.args.range.low.ticks c.args.range.high.ticks a.limit.ticks a.quantity.lots (queue s.code s.first a.product c.args.table.now) in
     omega (arith, whole, c.lots.ensures, c.lots-2.ensures, c.run-done.ensures.rest)
 
-pub returns : goal.returns
-returns g c =
+pub returns-clause-made : goal.returns-clause-made
+returns-clause-made g c =
     let s = g.S.BookSide in
     let t = g.T.Tape in
     let a = c.args.a in
