@@ -20,10 +20,9 @@ use Rattle.rules.specs.Refusing.{fault}
 use Rattle.rules.specs.Rules.{after, answer, Chosen, close_in, Step, refuses, accepts}
 use Rattle.rules.specs.Worlds.{World}
 use Rattle.rules.specs.declared.amendment.Amendment.{Amendment}
-use Rattle.rules.specs.declared.new_order.NewOrder.{NewOrder}
 use Rattle.laws.specs.Book.{row_at, resting, rest_of, Tidy, Numbered}
 use Rattle.laws.specs.Histories.{Event, event, History, Reached, made, then_called, is_accepted}
-use Rattle.laws.specs.Keeping.{Stayed, Receives, leavers, Told, ToldRightly, is_entry, RisingNumbers}
+use Rattle.laws.specs.Keeping.{Stayed, Receives, leavers, ToldRightly, is_entry, RisingNumbers}
 use Rattle.laws.specs.Keeping.{of_roll, of_opening, of_close, of_entry, of_amendment, of_withdrawal, of_adjustment, of_frenetic, of_resumption, of_request, of_determination}
 use Rattle.laws.specs.Quantities.{has_to_leave, number_told}
 use Rattle.laws.specs.Words.{total, only, count, Each}
