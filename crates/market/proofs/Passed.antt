@@ -1,9 +1,9 @@
 -- What a passed check tells. Assumes nothing.
-use Rattle.std.proofs.Common.{◌≡◌, ℕ, ◌≤◌, Bool, true, false, ◌&&◌, leb, List, [], ◌∷◌, Some, None, Option, sym, refl, ap, ◌∙◌, arith}
+use Rattle.std.proofs.Common.{◌≡◌, ℕ, Bool, true, false, leb, Some, None, Option, refl, arith}
 use Rattle.std.proofs.lemmas.Bool.{leb-true, and_parts}
 use Rattle.rules.specs.Refusing.{price_check, quantity_check, participant_check}
 use Rattle.terms.specs.Checked.{price_at, quantity_at, participant_at}
-use Rattle.terms.specs.Checks.{unless, first_of, earliest}
+use Rattle.terms.specs.Checks.{unless, first_of}
 use Rattle.terms.specs.Ranges.{highest_price, largest_quantity, last_participant}
 use Rattle.terms.specs.declared.refusal.Refusal.{Refusal}
 

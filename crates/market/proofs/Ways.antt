@@ -1,5 +1,5 @@
 -- Which way a call goes: refused, with nothing changed, or accepted. Assumes nothing.
-use Rattle.std.proofs.Common.{◌≡◌, ℕ, true, List, [], ◌∷◌, ◌++◌, is_err, IsErrAnd, Some, None, Ok, Err, Option, Result, sym, refl, ap, ◌∙◌, subst, arith}
+use Rattle.std.proofs.Common.{◌≡◌, ℕ, true, List, [], ◌∷◌, ◌++◌, is_err, IsErrAnd, Some, None, Ok, Err, Option, Result, sym, refl, ap, ◌∙◌, arith}
 use Rattle.std.proofs.lemmas.Result.{err_from_is_err_and}
 use Rattle.terms.specs.Checks.{answered, first_of, earliest, left_by}
 use Rattle.terms.specs.declared.refusal.Refusal.{Refusal}
@@ -16,6 +16,12 @@ fails_with (Some g) v f e = cc
 pub passes_with : {A : Type 0} (o : Option Refusal) (v w : A) → Ok w ≡ answered o v → (o ≡ None) × (w ≡ v)
 passes_with None v w e = (refl, cc)
 passes_with (Some g) v w e = absurd (let z : ◌≡◌ {A = ℕ} 0 1 = cc in let y : ⊥ = omega arith in y)
+
+-- a check that passes, before another
+pub asked_next : {A : Type 0} (a b : Option Refusal) (v : A) → a ≡ None → answered (earliest (a ∷ b ∷ [])) v ≡ answered b v
+asked_next None None v e = refl
+asked_next None (Some f) v e = refl
+asked_next (Some g) b v e = absurd (let z : ◌≡◌ {A = ℕ} 0 1 = cc in let y : ⊥ = omega arith in y)
 
 -- what a `?` returns
 pub handed_on : {A : Type 0} (r : Result A Refusal) (e : Refusal) → IsErrAnd r (λ f. f ≡ e) → is_err r ≡ true → r ≡ Err e

@@ -1,5 +1,5 @@
 -- What is asked of a market, its book and its tape. Assumes nothing.
-use Rattle.std.specs.Prelude.{ℕ, List, [], ◌∷◌, Option, Result}
+use Rattle.std.specs.Prelude.{ℕ, [], ◌∷◌, Option, Result}
 use Rattle.rules.specs.Held.{listed_check}
 use Rattle.limits.specs.declared.range.Range.{Range}
 use Rattle.orders.specs.Questions.{best_buy, best_sell}
