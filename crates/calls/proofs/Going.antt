@@ -17,7 +17,7 @@ use Rattle.terms.specs.Checks.{answered, left_by}
 use Rattle.terms.specs.declared.determination.Determination.{Determination}
 use Rattle.terms.specs.declared.determination.Determination.TheVariants.{Upheld, Cancelled}
 use Rattle.terms.specs.declared.refusal.Refusal.{Refusal}
-use Rattle.calls.specs.Applied.{Goes_on, Heard}
+use Rattle.calls.specs.Applied.{GoesOn, Heard}
 use Rattle.calls.specs.Keeping.{Kept, trades_of, kept_on, keeps, kept_after, without_first, Finds}
 use Rattle.calls.proofs.Lists.{kept_last, one_less, first_found, one_kept, put_back}
 
@@ -99,7 +99,7 @@ still_kept h w time c (Ok a) w' kept was has = λ k. accepted_counts h w time w'
 still_kept h w time c (Err e) w' kept was has = λ k. refused_counts h w time w' kept k (was k) c e
 
 module _ (w : World) (time : ℕ) (c : Call) (r : Result RuleAnswer Refusal) (w' : World) (kept kept' : List ℕ) where
-  pub goes_on : Step w time c r w' → kept' ≡ kept_after c r kept → HasCase c kept → Goes_on w time c r w' kept kept'
+  pub goes_on : Step w time c r w' → kept' ≡ kept_after c r kept → HasCase c kept → GoesOn w time c r w' kept kept'
   goes_on step is has = λ h reached was.
       let on = then_called reached (holds h c kept was has) step in
       (on, subst (λ (x : List ℕ). Kept (event w time c r w' ∷ h) x) (sym is) (still_kept h w time c r w' kept was has), all_laws on)

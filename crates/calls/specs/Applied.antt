@@ -15,8 +15,8 @@ use Rattle.calls.specs.declared.call.Unheard.{Unheard}
 use Rattle.calls.specs.declared.call.Unheard.TheVariants.{NoCase, NoMemory}
 
 -- every history by which what the call found was reached goes on with it, and every law holds of the longer one
-abbrev pub Goes_on : World → ℕ → Call → Result RuleAnswer Refusal → World → List ℕ → List ℕ → Type 0
-Goes_on w time c r w' kept kept' =
+abbrev pub GoesOn : World → ℕ → Call → Result RuleAnswer Refusal → World → List ℕ → List ℕ → Type 0
+GoesOn w time c r w' kept kept' =
     (h : History) → Reached h w → Kept h kept →
     Reached (event w time c r w' ∷ h) w' × Kept (event w time c r w' ∷ h) kept' × Laws (event w time c r w' ∷ h) w'
 
@@ -24,7 +24,7 @@ pub record Heard (w : World) (time : ℕ) (c : Call) (kept : List ℕ) (r : Resu
   pub rule : Step w time c r w'
   -- a case goes in last, and the first on its trade comes out
   pub cases : kept' ≡ kept_after c r kept
-  pub goes_on : Goes_on w time c r w' kept kept'
+  pub goes_on : GoesOn w time c r w' kept kept'
 
 -- no case on this trade is kept: no call is made
 pub record Caseless (w : World) (c : Call) (kept : List ℕ) (trade : ℕ) (w' : World) (kept' : List ℕ) : Type 0 where

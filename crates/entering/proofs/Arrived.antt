@@ -1,13 +1,13 @@
 -- An order that came to the book arrives as the rule says. Assumes nothing.
-use Rattle.std.proofs.Common.{◌≡◌, ℕ, ◌+◌, ◌<◌, ◌≤◌, max, Bool, true, false, not, ◌||◌, ltb, leb, List, [], ◌∷◌, ◌++◌, map, length, Some, None, Ok, Err, Option, Result, sym, refl, ap, ◌∙◌, subst, arith}
+use Rattle.std.proofs.Common.{◌≡◌, ℕ, ◌+◌, ◌<◌, max, Bool, ltb, leb, List, [], ◌∷◌, ◌++◌, map, length, Some, None, Ok, Err, Option, sym, refl, ap, ◌∙◌, subst, arith}
 use Rattle.std.proofs.lemmas.Bool.{lt-ltb}
-use Rattle.book.specs.Entries.{Enters, EntersFrom, Accepted, planned, arriving_as, settled, SomePlace, last_stamp, any_free, entry_checks as book_checks}
-use Rattle.book.specs.Sweeps.{RoomLeft, lots_filled, takes}
+use Rattle.book.specs.Entries.{Enters, EntersFrom, planned, arriving_as, settled, SomePlace, entry_checks as book_checks}
+use Rattle.book.specs.Sweeps.{RoomLeft, lots_filled}
 use Rattle.book.specs.Walks.{Fill, Walk, filled, trade_by}
 use Rattle.book.specs.declared.incoming.Incoming.{Incoming}
 use Rattle.book.specs.declared.outcome.Receipt.{Receipt as BookReceipt}
 use Rattle.limits.specs.declared.range.Range.{Range}
-use Rattle.orders.specs.Queue.{counted, higher_first, lower_first}
+use Rattle.orders.specs.Queue.{higher_first, lower_first}
 use Rattle.orders.specs.declared.row.OrderRow.{OrderRow}
 use Rattle.rules.specs.Arrivals.{Arrival, met, traded, remainder}
 use Rattle.rules.specs.Refusing.{place_check, tape_check, next_check}
@@ -18,9 +18,9 @@ use Rattle.rules.specs.Worlds.{World, world, range_in, product_of, established_i
 use Rattle.rules.specs.declared.state.State.{State}
 use Rattle.terms.specs.declared.right.Right.{Right}
 use Rattle.tape.specs.declared.row.TradeRow.{TradeRow}
-use Rattle.terms.specs.Checks.{earliest, first_of, unless}
+use Rattle.terms.specs.Checks.{earliest, unless}
 use Rattle.terms.specs.declared.refusal.Refusal.{Refusal}
-use Rattle.terms.specs.declared.refusal.Refusal.TheVariants.{NotListed, TapeFull}
+use Rattle.terms.specs.declared.refusal.Refusal.TheVariants.{NotListed}
 use Rattle.terms.specs.declared.side.Side.{Side}
 use Rattle.terms.specs.declared.side.Side.TheVariants.{Buy, Sell}
 use Rattle.entering.specs.Entries.{plain}
@@ -120,21 +120,22 @@ module _ {T : Type 0} (records : T → List TradeRow) (space : T → ℕ) (s : S
     refused_by e table' tape' h = (sym same_checks ∙ h.0, h.1, h.2)
 
     module _ (record_is : (f : Fill) → trade_by code (arriving_as i (s.stamp + 1)) f ≡ traded here coming f) where
-      entered_by : (r : BookReceipt) (table' : List OrderRow) (tape' : T) → Enters reaches code first records space ps.count s.stamp side i range table tape (Ok r) table' tape' →
+      entered_by : (r : BookReceipt) (table' : List OrderRow) (tape' : T) → Enters reaches code first records space ps.count s.stamp side i range table tape (Ok r) table' tape' → RoomLeft (space tape) r.trades (space tape') →
           Entered here coming r table' (records tape') (space tape')
-      entered_by r table' tape' h =
+      entered_by r table' tape' h room =
           let e = h.1 in
+          let trades : r.trades ≡ length (met here coming).fills = e.trades ∙ ap (λ (v : Walk). length v.fills) planned_is in
           let rest : r.rest ≡ (met here coming).rest = e.rest ∙ ap (λ (v : Walk). v.rest) planned_is in
           record {
             passes = sym same_checks ∙ h.0;
             number = e.number;
             traded_is = e.traded ∙ ap (λ (v : Walk). lots_filled v.fills) planned_is;
             rest_is = rest;
-            trades_is = e.trades ∙ ap (λ (v : Walk). length v.fills) planned_is;
+            trades_is = trades;
             halted_is = e.halted ∙ ap (λ (v : Walk). v.halted) planned_is;
             place = e.place;
             free_before = e.free_before;
-            room = subst (λ (v : Walk). RoomLeft (space tape) (length v.fills) (space tape')) planned_is e.room;
+            room = subst (λ (n : ℕ). RoomLeft (space tape) n (space tape')) trades room;
             table_is =
                 e.reduced
                 ∙ ap (λ (k : ℕ). settled (remainder coming) e.place k (filled (planned reaches code first i s.stamp range table).fills table)) rest
@@ -156,11 +157,11 @@ module _ {T : Type 0} (records : T → List TradeRow) (space : T → ℕ) (s : S
       refused_by records space s ps tells table tape Sell i range listed (λ limit price. leb limit price) 0 higher_first (planned_met (world s ps tells table (records tape) (space tape)) Sell i s.stamp range ranged) e table' tape' h
 
   module _ (worth : i.established.ticks ≡ established_in (world s ps tells table (records tape) (space tape)) i.time i.product) (width : i.no_bust ≡ (product_in ps i.product).listed.no_bust) (today : i.day ≡ s.day) where
-    pub taken_in : (side : Side) (r : BookReceipt) (table' : List OrderRow) (tape' : T) → EntersFrom records space ps.count s.stamp side i range table tape (Ok r) table' tape' →
+    pub taken_in : (side : Side) (r : BookReceipt) (table' : List OrderRow) (tape' : T) → EntersFrom records space ps.count s.stamp side i range table tape (Ok r) table' tape' → RoomLeft (space tape) r.trades (space tape') →
         Entered (world s ps tells table (records tape) (space tape)) (plain side i (s.stamp + 1)) r table' (records tape') (space tape')
-    taken_in Buy r table' tape' h =
+    taken_in Buy r table' tape' h room =
         let w = world s ps tells table (records tape) (space tape) in
-        entered_by records space s ps tells table tape Buy i range listed (λ limit price. leb price limit) 1 lower_first (planned_met w Buy i s.stamp range ranged) (record_buy w i s.stamp worth width today) r table' tape' h
-    taken_in Sell r table' tape' h =
+        entered_by records space s ps tells table tape Buy i range listed (λ limit price. leb price limit) 1 lower_first (planned_met w Buy i s.stamp range ranged) (record_buy w i s.stamp worth width today) r table' tape' h room
+    taken_in Sell r table' tape' h room =
         let w = world s ps tells table (records tape) (space tape) in
-        entered_by records space s ps tells table tape Sell i range listed (λ limit price. leb limit price) 0 higher_first (planned_met w Sell i s.stamp range ranged) (record_sell w i s.stamp worth width today) r table' tape' h
+        entered_by records space s ps tells table tape Sell i range listed (λ limit price. leb limit price) 0 higher_first (planned_met w Sell i s.stamp range ranged) (record_sell w i s.stamp worth width today) r table' tape' h room

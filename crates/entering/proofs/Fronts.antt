@@ -1,5 +1,5 @@
 -- An entry that nothing stopped comes in with the numbers that it brought. Assumes nothing.
-use Rattle.std.proofs.Common.{◌≡◌, ℕ, ◌+◌, ◌<◌, ◌≤◌, Bool, true, false, not, ◌&&◌, ltb, leb, List, [], ◌∷◌, Some, None, Option, sym, refl, ap, ◌∙◌, arith}
+use Rattle.std.proofs.Common.{◌≡◌, ℕ, ◌+◌, ◌<◌, ◌≤◌, not, leb, List, [], ◌∷◌, Some, None, Option, refl, ap, ◌∙◌}
 use Rattle.std.proofs.lemmas.Bool.{leb-true, ltb-true, and_parts, not-false}
 use Rattle.listing.specs.Changes.{contents}
 use Rattle.listing.specs.Entries.{ticks_fit, kind_fits}
@@ -9,11 +9,10 @@ use Rattle.listing.specs.declared.products.Products.{Products}
 use Rattle.orders.specs.Rows.{duration_code, duration_date}
 use Rattle.rules.specs.Arrivals.{Arrival}
 use Rattle.rules.specs.Entering.{entry, limit_or}
-use Rattle.rules.specs.Refusing.{limit_check, quantity_check, participant_check}
+use Rattle.rules.specs.Refusing.{limit_check}
 use Rattle.rules.specs.Worlds.{World, sweep_in}
 use Rattle.rules.specs.declared.new_order.NewOrder.{NewOrder}
-use Rattle.terms.specs.Checked.{price_at}
-use Rattle.terms.specs.Checks.{earliest, first_of}
+use Rattle.terms.specs.Checks.{earliest}
 use Rattle.terms.specs.Durations.{may_rest}
 use Rattle.terms.specs.declared.participant.Participant.{Participant}
 use Rattle.terms.specs.declared.price.Price.{Price}

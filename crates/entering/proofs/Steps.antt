@@ -1,12 +1,12 @@
 -- A call is a step by its rule. Assumes nothing.
-use Rattle.std.proofs.Common.{◌≡◌, ℕ, ◌+◌, ◌<◌, Bool, true, false, cond, not, ◌||◌, ltb, List, [], ◌∷◌, ◌++◌, map, length, Some, None, Ok, Err, Result, sym, refl, ap, ◌∙◌, subst}
+use Rattle.std.proofs.Common.{◌≡◌, ℕ, ◌<◌, cond, ◌||◌, ltb, List, Some, None, Ok, Err, Result, sym, ap, ◌∙◌, subst}
 use Rattle.std.proofs.lemmas.Bool.{lt-ltb}
 use Rattle.book.specs.declared.outcome.Receipt.{Receipt as BookReceipt}
 use Rattle.listing.specs.Changes.{Contents}
 use Rattle.orders.specs.declared.row.OrderRow.{OrderRow}
-use Rattle.rules.specs.Arrivals.{Arrival, met, arrived, halt_by, halt_in, halting, halts_market, receipt_for}
+use Rattle.rules.specs.Arrivals.{Arrival, arrived, halt_by, halt_in, halting, halts_market, receipt_for}
 use Rattle.rules.specs.Calls.{Call, Answer, told, enter, received}
-use Rattle.rules.specs.Entering.{entry, after_entry}
+use Rattle.rules.specs.Entering.{entry}
 use Rattle.rules.specs.Refusing.{fault}
 use Rattle.rules.specs.Rules.{Step, refuses, accepts, answer, after, Chosen}
 use Rattle.rules.specs.Worlds.{World, world, state_of, product_of}
