@@ -1,5 +1,5 @@
 -- An amendment is a step by its rule: changed in place, or come back to the book. Assumes nothing.
-use Rattle.std.proofs.Common.{◌≡◌, ℕ, ◌+◌, ◌<◌, ◌≤◌, Bool, true, false, cond, not, ◌&&◌, ◌||◌, eqb, ltb, leb, List, [], ◌∷◌, ◌++◌, map, length, set, Some, None, Ok, Err, Option, Result, sym, refl, ap, ◌∙◌, subst, arith}
+use Rattle.std.proofs.Common.{◌≡◌, ℕ, ◌+◌, ◌<◌, ◌≤◌, Bool, true, false, cond, not, ◌&&◌, ◌||◌, eqb, ltb, leb, List, [], ◌∷◌, ◌++◌, map, length, set, Some, None, Ok, Err, Option, sym, refl, ap, ◌∙◌, subst, arith}
 use Rattle.std.proofs.lemmas.Bool.{and_parts, ltb-true}
 use Rattle.book.specs.Entries.{settled, last_stamp}
 use Rattle.book.specs.Sweeps.{RoomLeft, lots_filled}
@@ -16,7 +16,7 @@ use Rattle.orders.specs.Rows.{free, side_code, duration_code, duration_date}
 use Rattle.orders.specs.declared.order.Entry.{Entry}
 use Rattle.orders.specs.declared.row.OrderRow.{OrderRow}
 use Rattle.returning.specs.Returns.{come_back_row, arrival_checks, ComesBack, ComesBackFrom}
-use Rattle.rules.specs.Amending.{slot_in, side_in, new_price, takes_stamp, arrives_again, repriced, amended_fills, changed_order, after_amendment, amended_receipt}
+use Rattle.rules.specs.Amending.{slot_in, side_in, takes_stamp, arrives_again, repriced, amended_fills, changed_order, after_amendment, amended_receipt}
 use Rattle.rules.specs.Arrivals.{Arrival, met, traded, remainder, arrived, halt_by, halt_in, halting, halts_market, receipt_for}
 use Rattle.rules.specs.Calls.{amend, received}
 use Rattle.rules.specs.Refusing.{fault, tape_check, next_check}
@@ -318,14 +318,14 @@ module _ (w : World) (time : ℕ) (m : Amendment) (e : Entry) (is : slot_in w m.
         Step w time (amend m) (Ok (received (record { number = e.order.number; traded = 0; rest = rest; trades = 0; halt = Nothing })))
         (world (state_of w.state.phase w.state.day time stamp w.state.halted) w.products w.tells table' w.tape w.room)
     unfolding after_amendment amended_receipt
-    change_accepted f stamp rest row table' stamp-is rest_is row_is table_is =
+    change_accepted f stamp rest row table' stamp_is rest_is row_is table_is =
         step_accepted w time (amend m) _ _ 0 w.room
         (late None (stamp_only ∙ f))
         (subst (λ (fs : List Fill). RoomLeft w.room (length fs) w.room) (sym no_fills) (omega arith, omega arith))
         (ap (λ (n : ℕ). received (record { number = e.order.number; traded = 0; rest = n; trades = 0; halt = Nothing })) rest_is
         ∙ ap (λ (a : Slot). received (record { number = a.row.number; traded = 0; rest = m.quantity; trades = 0; halt = Nothing })) (sym is)
         ∙ sym (ap (λ b. received (cond b (receipt_for w (repriced w m time)) (record { number = (slot_in w m.order).row.number; traded = 0; rest = m.quantity; trades = 0; halt = Nothing }))) not_again))
-        (ap (λ (k : ℕ). world (state_of w.state.phase w.state.day time k w.state.halted) w.products w.tells table' w.tape w.room) stamp-is
+        (ap (λ (k : ℕ). world (state_of w.state.phase w.state.day time k w.state.halted) w.products w.tells table' w.tape w.room) stamp_is
         ∙ ap (λ (t : List OrderRow). world (state_of w.state.phase w.state.day time (cond (new || larger) (w.state.stamp + 1) w.state.stamp) w.state.halted) w.products w.tells t w.tape w.room)
         (table_is ∙ ap (set w.table e.index) row_is)
         ∙ ap changed_world (sym is)
@@ -355,17 +355,17 @@ module _ (w : World) (time : ℕ) (m : Amendment) (e : Entry) (is : slot_in w m.
         s' ≡ state_of w.state.phase w.state.day time stamp (halts_market h || w.state.halted) → ps' ≡ halting h e.order.product w.products →
         Step w time (amend m) (Ok (received (record { number = e.order.number; traded = s.traded; rest = rest; trades = s.trades; halt = h }))) (world s' ps' w.tells table' tape' room')
     unfolding after_amendment amended_receipt arrived
-    back_accepted b s rest stamp h s' ps' table' tape' room' same returned rest_is stamp-is halt state products =
+    back_accepted b s rest stamp h s' ps' table' tape' room' same returned rest_is stamp_is halt state products =
         let a = repriced w m time in
         let c : Returned w a e.index s table' tape' room' = subst (λ (x : Arrival). Returned w x e.index s table' tape' room') same returned in
         let product : a.product ≡ e.order.product = ap (λ (x : Slot). x.row.product) is in
         let number : a.number ≡ e.order.number = ap (λ (x : Slot). x.row.number) is in
         let index : (slot_in w m.order).index ≡ e.index = ap (λ (x : Slot). x.index) is in
         let halts : h ≡ halt_in w a =
-        halt ∙ (λ j. halt_by (product_of w (sym product j)).listed.kind (c.halted-is j)) in
+        halt ∙ (λ j. halt_by (product_of w (sym product j)).listed.kind (c.halted_is j)) in
         let receipt : ◌≡◌ {A = Receipt} (record { number = e.order.number; traded = s.traded; rest = rest; trades = s.trades; halt = h }) (receipt_for w a) =
-        λ j. record { number = sym number j; traded = c.traded-is j; rest = (rest_is ∙ c.rest-is) j; trades = c.trades-is j; halt = halts j } in
-        let state' = state ∙ (λ j. state_of w.state.phase w.state.day time (stamp-is j) (halts_market (halts j) || w.state.halted)) in
+        λ j. record { number = sym number j; traded = c.traded_is j; rest = (rest_is ∙ c.rest_is) j; trades = c.trades_is j; halt = halts j } in
+        let state' = state ∙ (λ j. state_of w.state.phase w.state.day time (stamp_is j) (halts_market (halts j) || w.state.halted)) in
         let products' = products ∙ (λ j. halting (halts j) (sym product j) w.products) in
         let table'' = c.table_is ∙ (λ j. settled (remainder a) (sym index j) (met w a).rest (set (filled (met w a).fills w.table) (sym index j) free)) in
         step_accepted w time (amend m) _ _ 0 room'
@@ -373,7 +373,7 @@ module _ (w : World) (time : ℕ) (m : Amendment) (e : Entry) (is : slot_in w m.
         (subst (λ (fs : List Fill). RoomLeft w.room (length fs) room') (sym the_fills) c.room)
         (ap received receipt
         ∙ sym (ap (λ x. received (cond x (receipt_for w a) (record { number = (slot_in w m.order).row.number; traded = 0; rest = m.quantity; trades = 0; halt = Nothing }))) again))
-        ((λ j. world (state' j) (products' j) w.tells (table'' j) (c.tape-is j) room')
+        ((λ j. world (state' j) (products' j) w.tells (table'' j) (c.tape_is j) room')
         ∙ sym (ap (λ x. cond x (arrived w a (slot_in w m.order).index (set (filled (met w a).fills w.table) (slot_in w m.order).index free) room') (changed_in room')) again))
       where
         changed_in : ℕ → World

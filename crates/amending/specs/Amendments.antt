@@ -2,7 +2,6 @@
 use Rattle.std.specs.Prelude.{◌≡◌, ℕ, ◌<◌, not, List, [], ◌∷◌, ◌++◌, length, Some, None, Ok, Err, Option, Result}
 use Rattle.book.specs.declared.arriving.Arriving.{Arriving}
 use Rattle.orders.specs.Queue.{slot_of}
-use Rattle.orders.specs.Questions.{order_numbered}
 use Rattle.rules.specs.Amending.{order_in, side_in, new_price, place_of}
 use Rattle.rules.specs.Refusing.{time_check, phase_check, price_check, quantity_check, participant_check, owner_check, limit_held, amended_limit}
 use Rattle.rules.specs.Worlds.{World, is_closed, product_of, sweep_in, established_in}

@@ -1,11 +1,11 @@
-use Rattle.std.proofs.Common.{◌≡◌, ap, arith}
+use Rattle.std.proofs.Common.{ap, arith}
 use Rattle.listing.specs.declared.product.Product.{Product}
 use Rattle.entering.proofs.Fronts.{no_bust_fits}
 use Rattle.amending.proofs.amendments.arriving.Goals as goal
 
-pub invariant-of-result : goal.invariant-of-result
-invariant-of-result g c =
+pub invariant_of-result : goal.invariant_of-result
+invariant_of-result g c =
     let ps = c.args.market.now.products in
     let order = c.args.a.entry.order in
     let width = ap (λ (p : Product). p.listed.no_bust) c.requires.product in
-    (omega (arith, c.requires.listed, ps.few), (order.numbered, (omega (arith, width, no_bust_fits ps order.product c.requires.listed), tt)))
+    record { listed = omega (arith, c.requires.listed, ps.few); numbered = order.numbered; narrow = omega (arith, width, no_bust_fits ps order.product c.requires.listed) }
