@@ -2,17 +2,17 @@
 use Rattle.std.proofs.Common.{◌≡◌, ℕ, zero, suc, ◌<◌, List, [], ◌∷◌, map, get_or, Ok, Err, Result, sym, refl, ap, ◌∙◌, subst}
 use Rattle.std.proofs.lemmas.List.{get_or-take}
 use Rattle.laws.proofs.All.{all_laws}
-use Rattle.laws.specs.Histories.{Fresh, NewProducts, Reached, made}
+use Rattle.laws.specs.Histories.{NewProducts, Reached, made}
 use Rattle.laws.specs.Words.{Each}
 use Rattle.listing.specs.Changes.{contents}
 use Rattle.listing.specs.Entries.{unlisted, listed_at}
 use Rattle.listing.specs.Listings.{Lists}
-use Rattle.rules.specs.Held.{products_of, product_in}
-use Rattle.listing.specs.Product.{fresh, product_at}
+use Rattle.rules.specs.Held.{product_in}
+use Rattle.listing.specs.Product.{fresh}
 use Rattle.listing.specs.declared.entry.Listed.{Listed}
 use Rattle.listing.specs.declared.product.Product.{Product}
 use Rattle.listing.specs.declared.products.Products.{Products}
-use Rattle.market.specs.Makes.{emptied, NewMarket, Makes}
+use Rattle.market.specs.Makes.{emptied, Makes}
 use Rattle.market.specs.declared.market.Market.{Market}
 use Rattle.orders.specs.Rows.{free}
 use Rattle.orders.specs.declared.row.OrderRow.{OrderRow}

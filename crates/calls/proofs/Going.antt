@@ -1,9 +1,9 @@
 -- A call by its rule goes on every history. Assumes nothing.
-use Rattle.std.proofs.Common.{◌≡◌, ℕ, ◌+◌, ◌<◌, ◌≤◌, Bool, true, false, ◌&&◌, eqb, List, [], ◌∷◌, ◌++◌, get_or, Some, None, Ok, Err, Option, Result, sym, refl, ap, ◌∙◌, subst, arith}
+use Rattle.std.proofs.Common.{◌≡◌, ℕ, ◌+◌, ◌≤◌, Bool, true, false, ◌&&◌, eqb, List, [], ◌∷◌, ◌++◌, get_or, Some, None, Ok, Err, Option, Result, sym, refl, ap, ◌∙◌, subst, arith}
 use Rattle.std.proofs.lemmas.List.{map-append}
 use Rattle.std.specs.List.{insert, remove}
 use Rattle.laws.proofs.All.{all_laws}
-use Rattle.laws.specs.Histories.{History, Reached, then_called, Holds, event, cases, spent, verdicts}
+use Rattle.laws.specs.Histories.{History, then_called, Holds, event, cases, spent, verdicts}
 use Rattle.laws.specs.Words.{only}
 use Rattle.market.specs.Markets.{Follows}
 use Rattle.cases.specs.declared.case.Case.{Case}

@@ -5,7 +5,7 @@ use Rattle.laws.specs.Laws.{Laws}
 use Rattle.listing.specs.Changes.{contents}
 use Rattle.market.specs.declared.market.Market.{Market}
 use Rattle.orders.specs.declared.row.OrderRow.{OrderRow}
-use Rattle.rules.specs.Worlds.{World, world}
+use Rattle.rules.specs.Worlds.{world}
 use Rattle.terms.specs.declared.refusal.Refusal.{Refusal}
 use Rattle.terms.specs.declared.right.Right.{Right}
 use Rattle.calls.specs.Keeping.{Kept}

@@ -1,5 +1,5 @@
 -- A call, an answer and a result as the rules have them. Assumes nothing.
-use Rattle.std.specs.Prelude.{ℕ, List, Ok, Err, Result}
+use Rattle.std.specs.Prelude.{Result}
 use Rattle.rules.specs.Calls.{Call as RuleCall, Answer as RuleAnswer}
 use Rattle.rules.specs.Calls.{roll, open_session, close_session, enter, amend, withdraw, adjust, frenetic, resume, request, determine}
 use Rattle.rules.specs.Calls.{done, removed, received, left_with, case_on, told}

@@ -1,4 +1,4 @@
-use Rattle.std.proofs.Common.{List, Some, None, refl, ap, ◌∙◌, subst}
+use Rattle.std.proofs.Common.{List, Some, None, refl, ◌∙◌, subst}
 use Rattle.std.specs.List.{insert}
 use Rattle.cases.specs.declared.case.Case.{Case}
 use Rattle.calls.specs.Keeping.{Finds}
@@ -6,12 +6,12 @@ use Rattle.calls.proofs.Going.{case_spent, case_back}
 use Rattle.calls.proofs.Lists.{none_kept}
 use Rattle.calls.proofs.apply.determine_kept.Goals as goal
 
-pub returns-in-default : goal.returns-in-default
-returns-in-default g c =
+pub returns-in_default : goal.returns-in_default
+returns-in_default g c =
     record {
       verdict = c.args.verdict;
       asked = refl;
-      missing = none_kept c.args.trade _ (subst (λ (cs : List Case). Finds c.args.trade cs None) c.deref.ensures.value c.in-default.ensures);
+      missing = none_kept c.args.trade _ (subst (λ (cs : List Case). Finds c.args.trade cs None) c.deref.ensures.value c.in_default.ensures);
       same = refl;
       cases = refl;
     }
@@ -27,4 +27,4 @@ returns-in-Err g c =
     case_back _ _ _ _ _ _ _ c.in-Some.i c.remove-case.result c.in-Err.refusal
     (subst (λ (cs : List Case). Finds c.args.trade cs (Some c.in-Some.i)) c.deref.ensures.value c.in-Some.ensures)
     c.remove-case.ensures.value c.in-Err.ensures.rule
-    (c.put-back.ensures ∙ (λ j. insert (c.remove-case.ensures.items j) c.in-Some.i (c.in-Err.ensures.back j)))
+    (c.put_back.ensures ∙ (λ j. insert (c.remove-case.ensures.items j) c.in-Some.i (c.in-Err.ensures.back j)))

@@ -1,4 +1,4 @@
-use Rattle.std.proofs.Common.{◌≡◌, ℕ, List, All, sym, ap, ◌∙◌, subst, arith}
+use Rattle.std.proofs.Common.{◌≡◌, List, All, sym, ap, ◌∙◌, subst, arith}
 use Rattle.std.proofs.lemmas.List.Elements.{All-more}
 use Rattle.std.proofs.lemmas.List.{get_or_default, take_all}
 use Rattle.cases.specs.declared.case.Case.{Case}
@@ -6,7 +6,7 @@ use Rattle.calls.proofs.apply.find_case.Goals as goal
 
 pub loop-i-preserved : goal.loop-i-preserved
 loop-i-preserved c =
-    All-more _ c.args.cases.now c.loop-i.i _ c.loop-i-test.true c.loop-i.invariant
+    All-more (λ (x : Case). x.trade ≡ c.args.trade → ⊥) c.args.cases.now c.loop-i.i _ c.loop-i-test.true c.loop-i.invariant
     (λ e. c.if-trade.false (c.trade.ensures ∙ e))
 
 pub returns-then-trade : goal.returns-then-trade

@@ -7,7 +7,7 @@ use Rattle.calls.proofs.apply.keep_request.Goals as goal
 pub returns-in-Ok : goal.returns-in-Ok
 returns-in-Ok g c =
     case_kept _ _ _ _ _ _ _ c.in-Ok.case c.in-Ok.ensures
-    (c.push-reserved.ensures.items ∙ ap (λ (xs : List Case). xs ++ c.in-Ok.case ∷ []) c.reserve.ensures.items)
+    (c.push_reserved.ensures.items ∙ ap (λ (xs : List Case). xs ++ c.in-Ok.case ∷ []) c.reserve.ensures.items)
 
 pub returns-in-Err : goal.returns-in-Err
 returns-in-Err g c =

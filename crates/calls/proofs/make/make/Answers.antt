@@ -5,5 +5,5 @@ pub returns : goal.returns
 returns g c =
     record {
       made = c.new.ensures;
-      begins = begins g.M.PricingModel.tells c.args.listing.now c.args.day-limit c.args.model c.args.table.now c.new.new.table c.new.result c.new.ensures;
+      begins = begins g.M.PricingModel.tells c.args.listing.now c.args.day_limit c.args.model c.args.table.now c.new.new.table c.new.result c.new.ensures;
     }
