@@ -2,7 +2,7 @@
 use Rattle.std.proofs.Common.{◌≡◌, ℕ, zero, suc, ◌<◌, ◌≤◌, Bool, true, false, not, ltb, List, [], ◌∷◌, length, get_or, Some, None, All, Option, refl, ap, ◌∙◌, arith}
 use Rattle.std.proofs.lemmas.List.Elements.{All-head, All-tail}
 use Rattle.std.proofs.lemmas.Bool.{or_right, lt-ltb, le-ltb}
-use Rattle.orders.proofs.Heads.{length_counted, getD_counted}
+use Rattle.orders.proofs.Heads.{length_counted, get_or_counted}
 use Rattle.orders.specs.Queue.{counted}
 use Rattle.orders.specs.Questions.{stands}
 use Rattle.orders.specs.Rows.{free}
@@ -19,7 +19,7 @@ free_some products (r ∷ rows) (suc i) l h = or_right (not (stands products r))
 
 pub place_free : (products : ℕ) (table : List OrderRow) (i : ℕ) → i < length (counted table) → stands products (get_or table i free) ≡ false → any_free products (counted table) ≡ true
 place_free products table i l h =
-    free_some products (counted table) i l (ap (stands products) (getD_counted table i free (omega (arith, length_counted table))) ∙ h)
+    free_some products (counted table) i l (ap (stands products) (get_or_counted table i free (omega (arith, length_counted table))) ∙ h)
 
 pub none_free : (products : ℕ) (rows : List OrderRow) → All (λ r. stands products r ≡ true) rows → any_free products rows ≡ false
 none_free products [] a = refl

@@ -1,7 +1,7 @@
 // A line of text to the command that it writes.
 ghost use Rattle.std.specs.Prelude.{◌≡◌};
 ghost use Rattle.console.specs.Commands.{Starts, Dated, ends, side_of, limit_of, span_of, product_line, order_line, verb_of, command_line};
-ghost use Rattle.console.specs.declared.command.Fault.TheVariants.{Number as number-fault, Side as side-fault, Limit as limit-fault, Duration as duration-fault};
+ghost use Rattle.console.specs.declared.command.Fault.TheVariants.{Number as number_fault, Side as side_fault, Limit as limit_fault, Duration as duration_fault};
 ghost use Rattle.reading.specs.Numerals.{numeral};
 
 use crate::command::{Command, Fault, Order, Span, Verb};
@@ -11,7 +11,7 @@ use terms::duration::Duration;
 use terms::side::Side;
 
 fn number_from(text: &[u8]) -> Result<(u32, &[u8]), Fault>
-    ensures { Starts numeral number-fault text.now result }
+    ensures { Starts numeral number_fault text.now result }
 {
     let (word, rest) = split_word(text);
     match number(word) {
@@ -21,7 +21,7 @@ fn number_from(text: &[u8]) -> Result<(u32, &[u8]), Fault>
 }
 
 fn side_from(text: &[u8]) -> Result<(Side, &[u8]), Fault>
-    ensures { Starts side_of side-fault text.now result }
+    ensures { Starts side_of side_fault text.now result }
 {
     let (word, rest) = split_word(text);
     if says(word, b"buy") {
@@ -61,7 +61,7 @@ fn product_line(text: &[u8]) -> Result<Command, Fault>
 }
 
 fn limit_from(text: &[u8]) -> Result<(Option<u32>, &[u8]), Fault>
-    ensures { Starts limit_of limit-fault text.now result }
+    ensures { Starts limit_of limit_fault text.now result }
 {
     let (word, rest) = split_word(text);
     if says(word, b"market") {
@@ -92,7 +92,7 @@ fn span_of(word: &[u8]) -> Option<Span>
 }
 
 fn span_from(text: &[u8]) -> Result<(Span, &[u8]), Fault>
-    ensures { Starts span_of duration-fault text.now result }
+    ensures { Starts span_of duration_fault text.now result }
 {
     let (word, rest) = split_word(text);
     match span_of(word) {

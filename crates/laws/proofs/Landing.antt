@@ -4,7 +4,7 @@ use lib.Seq.{set-get_or}
 use Rattle.std.proofs.lemmas.Bool.{cond_both, both_ways, and_right, ne_eqb, eqb-true}
 use Rattle.book.specs.Entries.{SomePlace}
 use Rattle.book.specs.Walks.{Fill, row_left, filled}
-use Rattle.orders.proofs.Heads.{length_counted, getD_counted}
+use Rattle.orders.proofs.Heads.{length_counted, get_or_counted}
 use Rattle.orders.specs.Queue.{counted}
 use Rattle.orders.specs.Questions.{stands}
 use Rattle.orders.specs.Rows.{fair, free, side_code}
@@ -31,7 +31,7 @@ free_off s n = refl
 
 -- a place that counts is read alike in the whole table
 pub row_at_is : (table : List OrderRow) (i : ℕ) → i < length (counted table) → row_at table i ≡ get_or table i free
-row_at_is table i l = getD_counted table i free (omega (arith, length_counted table, l))
+row_at_is table i l = get_or_counted table i free (omega (arith, length_counted table, l))
 
 -- where nobody stood, the place is free
 pub place_was_free : (n : ℕ) (table : List OrderRow) (i : ℕ) → Tidy n table → SomePlace n table i → row_at table i ≡ free

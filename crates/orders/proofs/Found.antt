@@ -5,7 +5,7 @@ use Rattle.std.proofs.lemmas.List.{drop_more, at_drop_all}
 use Rattle.orders.specs.Queue.{Slot, slot, slots, head, counted}
 use Rattle.orders.specs.Rows.{free}
 use Rattle.orders.specs.declared.row.OrderRow.{OrderRow}
-use Rattle.orders.proofs.Heads.{length_counted, getD_counted}
+use Rattle.orders.proofs.Heads.{length_counted, get_or_counted}
 
 module _ (p : Slot → Bool) (rows : List OrderRow) where
   -- the first that passes from index k on
@@ -24,7 +24,7 @@ module _ (p : Slot → Bool) (rows : List OrderRow) where
 -- the same over the places of a table that count
 module _ (table : List OrderRow) (k : ℕ) (in' : k < length (counted table)) where
   same_row : get_or (counted table) k free ≡ get_or table k free
-  same_row = getD_counted table k free (omega (arith, length_counted table))
+  same_row = get_or_counted table k free (omega (arith, length_counted table))
 
   pub counted_skip : (p : Slot → Bool) → p (slot k (get_or table k free)) ≡ false → first_from p (counted table) (k + 1) ≡ first_from p (counted table) k
   counted_skip p e = first_skip p (counted table) k free in' (rw same_row e)

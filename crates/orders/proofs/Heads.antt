@@ -9,9 +9,9 @@ pub length_counted : (rows : List OrderRow) → length (counted rows) ≡ min mo
 unfolding counted
 length_counted rows = length-take most_places rows
 
-pub getD_counted : (rows : List OrderRow) (k : ℕ) (d : OrderRow) → k < most_places → get_or (counted rows) k d ≡ get_or rows k d
+pub get_or_counted : (rows : List OrderRow) (k : ℕ) (d : OrderRow) → k < most_places → get_or (counted rows) k d ≡ get_or rows k d
 unfolding counted
-getD_counted rows k d h = get_or-take most_places rows k d h
+get_or_counted rows k d h = get_or-take most_places rows k d h
 
 pub set_counted : (rows : List OrderRow) (k : ℕ) (r : OrderRow) → k < most_places → counted (set rows k r) ≡ set (counted rows) k r
 unfolding counted

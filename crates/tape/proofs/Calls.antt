@@ -6,7 +6,7 @@ use Rattle.terms.specs.Numbers.{mark_number}
 use Rattle.terms.specs.declared.mark.Mark.{Mark}
 use Rattle.terms.specs.declared.mark.Mark.TheVariants.{Stands, Considered, Upheld, Cancelled}
 use Rattle.terms.specs.declared.missing.Missing.{Missing}
-use Rattle.tape.proofs.Memory.{length_placed, getD_placed, latest_placed}
+use Rattle.tape.proofs.Memory.{length_placed, get_or_placed, latest_placed}
 use Rattle.tape.specs.Placed.{placed, FairPlaces, RisingPlaces}
 use Rattle.tape.specs.Ranges.{last_mark}
 use Rattle.tape.specs.Rows.{fair}
@@ -29,7 +29,7 @@ module _ (at : ℕ → TradeRow) (used n : ℕ) where
       out
 
   pub record_placed : 1 ≤ n → n ≤ used → record_at (placed at used) n ≡ at (n - 1)
-  record_placed low high = getD_placed at used (n - 1) blank (omega arith)
+  record_placed low high = get_or_placed at used (n - 1) blank (omega arith)
 
   module _ {F : Type 0} (told : F → Missing) (fault : F) (tells : told fault ≡ record { number = n; count = used }) where
     pub absent_placed : (n < 1) ⊎ (used < n) → Absent told (placed at used) n fault

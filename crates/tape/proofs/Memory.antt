@@ -13,13 +13,13 @@ use Rattle.tape.specs.declared.row.TradeRow.{TradeRow}
 pub length_placed : (at : ℕ → TradeRow) (n : ℕ) → length (placed at n) ≡ n
 length_placed at n = length-map-range_with_len at 0 n
 
-pub getD_placed : (at : ℕ → TradeRow) (n k : ℕ) (d : TradeRow) → k < n → get_or (placed at n) k d ≡ at k
-getD_placed at n k d lt = get_or-map-range_with_len at 0 n k k d lt (omega arith)
+pub get_or_placed : (at : ℕ → TradeRow) (n k : ℕ) (d : TradeRow) → k < n → get_or (placed at n) k d ≡ at k
+get_or_placed at n k d lt = get_or-map-range_with_len at 0 n k k d lt (omega arith)
 
 pub fair_placed : (at : ℕ → TradeRow) (n : ℕ) → FairPlaces at n → Fair (placed at n)
 fair_placed at n h =
     All-from_get_or (λ r. fair r ≡ true) (placed at n) blank
-    (λ k lt. let l : k < n = omega (arith, length_placed at n) in rw (getD_placed at n k blank l) (h k l))
+    (λ k lt. let l : k < n = omega (arith, length_placed at n) in rw (get_or_placed at n k blank l) (h k l))
 
 pub rising_placed : (at : ℕ → TradeRow) (n : ℕ) → RisingPlaces at n → Rising (placed at n)
 rising_placed at n h =
@@ -27,14 +27,14 @@ rising_placed at n h =
     (λ k lt.
     let l : suc k < n = omega (arith, length_placed at n) in
     let m : k < n = omega arith in
-    rw (getD_placed at n k blank m, getD_placed at n (suc k) blank l) (h k l))
+    rw (get_or_placed at n k blank m, get_or_placed at n (suc k) blank l) (h k l))
 
 pub placed_same : (at at' : ℕ → TradeRow) (n : ℕ) → ((k : ℕ) → k < n → at' k ≡ at k) → placed at' n ≡ placed at n
 placed_same at at' n h =
     same_lists (placed at' n) (placed at n) (length_placed at' n ∙ sym (length_placed at n))
     (λ k d lt.
     let l : k < n = omega (arith, length_placed at' n) in
-    getD_placed at' n k d l ∙ h k l ∙ sym (getD_placed at n k d l))
+    get_or_placed at' n k d l ∙ h k l ∙ sym (get_or_placed at n k d l))
 
 -- one more record, written at the first place that was not in use
 pub placed_push : (at at' : ℕ → TradeRow) (n : ℕ) (r : TradeRow) → ((k : ℕ) → k < n → at' k ≡ at k) → at' n ≡ r → placed at' (n + 1) ≡ placed at n ++ r ∷ []
@@ -50,11 +50,11 @@ placed_set at at' n i r lt h e =
     let m : k < n = omega (arith, length_placed at' n) in
     ⊎_elim
     (λ (here : k ≡ i).
-    getD_placed at' n k d m ∙ ap at' here ∙ e ∙ sym (rw here (get_or-set_same (placed at n) i r d (omega arith))))
+    get_or_placed at' n k d m ∙ ap at' here ∙ e ∙ sym (rw here (get_or-set_same (placed at n) i r d (omega arith))))
     (λ (other : k ≡ i → ⊥).
-    getD_placed at' n k d m ∙ h k other ∙ sym (get_or-set_other (placed at n) i k r d other ∙ getD_placed at n k d m))
+    get_or_placed at' n k d m ∙ h k other ∙ sym (get_or-set_other (placed at n) i k r d other ∙ get_or_placed at n k d m))
     (cases_eq k i))
 
 pub latest_placed : (at : ℕ → TradeRow) (n : ℕ) → 0 < n → latest (placed at n) ≡ (at (n - 1)).time
 latest_placed at n some =
-    latest_at (placed at n) (n - 1) blank (omega (arith, length_placed at n)) ∙ ap (λ (r : TradeRow). r.time) (getD_placed at n (n - 1) blank (omega arith))
+    latest_at (placed at n) (n - 1) blank (omega (arith, length_placed at n)) ∙ ap (λ (r : TradeRow). r.time) (get_or_placed at n (n - 1) blank (omega arith))

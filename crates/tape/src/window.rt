@@ -1,6 +1,6 @@
 // What the records of a product just before a time add up to.
 ghost use Rattle.std.specs.Prelude.{◌≡◌};
-ghost use Rattle.tape.specs.Windows.{window, turnover as worth-of, volume as lots-of};
+ghost use Rattle.tape.specs.Windows.{window, turnover as worth_of, volume as lots_of};
 
 use crate::Tape;
 use crate::reading::known;
@@ -21,8 +21,8 @@ impl Sums {
     pub fn before<T: Tape>(tape: &T, product: u32, time: u32) -> Sums
     where
         Refusal: From<T::Fault>,
-        ensures turnover { result.turnover ≡ worth-of (window product time (T.Tape.records tape.now)) }
-        ensures volume { result.volume ≡ lots-of (window product time (T.Tape.records tape.now)) }
+        ensures turnover { result.turnover ≡ worth_of (window product time (T.Tape.records tape.now)) }
+        ensures volume { result.volume ≡ lots_of (window product time (T.Tape.records tape.now)) }
     {
         let since = time.saturating_sub(Sums::WINDOW_SECONDS);
         let mut turnover = 0;

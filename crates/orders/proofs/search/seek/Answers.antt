@@ -5,7 +5,7 @@ use Rattle.orders.specs.Queue.{Slot, slot, slot_of, before, wanted, head, offer,
 use Rattle.orders.specs.Rows.{free}
 use Rattle.orders.specs.declared.order.Entry.{Entry}
 use Rattle.orders.specs.declared.row.OrderRow.{OrderRow}
-use Rattle.orders.proofs.Heads.{part, part_down, part_end, length_counted, getD_counted}
+use Rattle.orders.proofs.Heads.{part, part_down, part_end, length_counted, get_or_counted}
 use Rattle.orders.proofs.Gone.{head_in}
 use Rattle.orders.proofs.search.seek.Goals as goal
 
@@ -24,7 +24,7 @@ loop-i-preserved g c =
     let p = wanted s.code s.first c.args.product (option_map slot_of c.args.after) in
     let in' : k < most_places = omega (arith, c.span-i.ensures) in
     c.offered-found.ensures
-    ∙ ap (λ (r : OrderRow). offer lt p (slot k r) (option_map slot_of c.loop-i.found)) (sym (getD_counted rows k free in'))
+    ∙ ap (λ (r : OrderRow). offer lt p (slot k r) (option_map slot_of c.loop-i.found)) (sym (get_or_counted rows k free in'))
     ∙ part_down lt p (counted rows) c.loop-i.i k free (option_map slot_of c.loop-i.found) (omega arith) (omega (arith, length_counted rows, c.span-i.ensures)) c.loop-i.invariant
 
 inside : (lt : Slot → Slot → Bool) (p : Slot → Bool) (rows : _) (o : Option Entry) → option_map slot_of o ≡ head (part lt p 0 (counted rows)) → IfSome o (λ e. e.index < length rows)
