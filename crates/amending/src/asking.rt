@@ -41,9 +41,9 @@ pub(crate) fn hold_day(state: State, time: u32) -> Result<(), Refusal>
 fn read_terms(m: Amendment) -> Result<Terms, Refusal>
     ensures { result ≡ answered (earliest (terms_checks m)) (terms_as m) }
 {
-    let price = Price::new(m.price)?;
-    let quantity = Quantity::new(m.quantity)?;
-    let _ = Participant::new(m.participant)?;
+    let price = Price::try_from(m.price)?;
+    let quantity = Quantity::try_from(m.quantity)?;
+    let _ = Participant::try_from(m.participant)?;
     Ok(Terms { price, quantity })
 }
 

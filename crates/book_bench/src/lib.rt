@@ -12,9 +12,9 @@ use terms::price::Price;
 use terms::quantity::Quantity;
 
 fn arriving(limit: u32, lots: u32) -> Option<Arriving> {
-    let participant = Participant::new(7).ok()?;
-    let limit = Price::new(limit).ok()?;
-    let quantity = Quantity::new(lots).ok()?;
+    let participant = Participant::try_from(7).ok()?;
+    let limit = Price::try_from(limit).ok()?;
+    let quantity = Quantity::try_from(lots).ok()?;
     Some(Arriving {
         product: 0,
         number: 1,

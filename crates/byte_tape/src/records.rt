@@ -108,7 +108,7 @@ impl Tape for ByteTape<'_> {
             });
         }
         let at = RECORD_BYTES * (n as usize - 1);
-        self.bytes[at + MARK_BYTE] = mark.number() as u8;
+        self.bytes[at + MARK_BYTE] = mark as u8;
         Ok(())
     }
 }

@@ -60,7 +60,7 @@ where
     ensures { result ≡ answered (request_fault state (T.Tape.records tape.now) time participant number) tt }
 {
     hold_time(state, time)?;
-    let _ = Participant::new(participant)?;
+    let _ = Participant::try_from(participant)?;
     let trade = trade_at(tape, number)?;
     hold_case(trade, number, participant, time)
 }

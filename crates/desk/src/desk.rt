@@ -64,7 +64,7 @@ impl Desk {
         if !is_fine(sweep, daily) {
             return Err(Refusal::Malformed(Malformed::Entry(0)));
         }
-        let reference = Price::new(reference)?;
+        let reference = Price::try_from(reference)?;
         *self = Desk {
             product: Some(Product {
                 sweep,

@@ -41,7 +41,7 @@ fn price_of(limit: Option<u32>, sweep: Price) -> Result<Price, Refusal>
 {
     match limit {
         None => Ok(sweep),
-        Some(ticks) => Ok(Price::new(ticks)?),
+        Some(ticks) => Ok(Price::try_from(ticks)?),
     }
 }
 
@@ -88,8 +88,8 @@ impl Desk {
     {
         let sweep = sweep_of(product, order.side, table);
         let price = price_of(order.limit, sweep)?;
-        let quantity = Quantity::new(order.quantity)?;
-        let participant = Participant::new(order.participant)?;
+        let quantity = Quantity::try_from(order.quantity)?;
+        let participant = Participant::try_from(order.participant)?;
         if self.halted {
             return Err(Refusal::Halted(0));
         }

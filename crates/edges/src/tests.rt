@@ -16,7 +16,7 @@ use terms::right::Right;
 use terms::side::Side;
 
 fn price(ticks: u32) -> Result<Price, Fail> {
-    match Price::new(ticks) {
+    match Price::try_from(ticks) {
         Ok(price) => Ok(price),
         Err(_) => Err(Fail::new("no price")),
     }
@@ -26,13 +26,13 @@ fn price(ticks: u32) -> Result<Price, Fail> {
 fn checked_numbers_at_their_edges(rt: HostRuntime) -> Result<(), Fail> {
     assert_eq!(rt; price(0)?.ticks(), 0);
     assert_eq!(rt; price(1_000_000)?.ticks(), 1_000_000);
-    assert!(rt; matches!(Price::new(1_000_001), Err(Field::Price)));
-    assert!(rt; matches!(Quantity::new(0), Err(Field::Quantity)));
-    assert!(rt; Quantity::new(1).is_ok() && Quantity::new(1_000_000).is_ok());
-    assert!(rt; matches!(Quantity::new(1_000_001), Err(Field::Quantity)));
-    assert!(rt; matches!(Participant::new(0), Err(Field::Participant)));
-    assert!(rt; Participant::new(1).is_ok() && Participant::new(999).is_ok());
-    assert!(rt; matches!(Participant::new(1_000), Err(Field::Participant)));
+    assert!(rt; matches!(Price::try_from(1_000_001), Err(Field::Price)));
+    assert!(rt; matches!(Quantity::try_from(0), Err(Field::Quantity)));
+    assert!(rt; Quantity::try_from(1).is_ok() && Quantity::try_from(1_000_000).is_ok());
+    assert!(rt; matches!(Quantity::try_from(1_000_001), Err(Field::Quantity)));
+    assert!(rt; matches!(Participant::try_from(0), Err(Field::Participant)));
+    assert!(rt; Participant::try_from(1).is_ok() && Participant::try_from(999).is_ok());
+    assert!(rt; matches!(Participant::try_from(1_000), Err(Field::Participant)));
     Ok(())
 }
 

@@ -54,7 +54,7 @@ fn price_of(limit: Option<u32>, sweep: Price) -> Result<Price, Refusal>
 {
     match limit {
         None => Ok(sweep),
-        Some(ticks) => Ok(Price::new(ticks)?),
+        Some(ticks) => Ok(Price::try_from(ticks)?),
     }
 }
 
@@ -107,8 +107,8 @@ fn read_numbers(o: NewOrder, sweep: Price, day: u32) -> Result<Numbers, Refusal>
     ensures { result ≡ answered (earliest (number_checks day o)) (numbers_as o sweep) }
 {
     let limit = price_of(o.limit, sweep)?;
-    let quantity = Quantity::new(o.quantity)?;
-    let participant = Participant::new(o.participant)?;
+    let quantity = Quantity::try_from(o.quantity)?;
+    let participant = Participant::try_from(o.participant)?;
     hold_date(o.duration, day)?;
     Ok(Numbers {
         limit,

@@ -26,7 +26,7 @@ where
         return None;
     }
     // an average of prices is one
-    match Price::new((sums.turnover / sums.volume) as u32) {
+    match Price::try_from((sums.turnover / sums.volume) as u32) {
         Ok(price) => Some(price),
         Err(_) => unreachable(),
     }

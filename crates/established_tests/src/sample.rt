@@ -43,7 +43,7 @@ pub fn option_on(right: Right, strike: u32, underlying: u32) -> Listed {
 }
 
 pub fn price(ticks: u32) -> Result<Price, Fail> {
-    match Price::new(ticks) {
+    match Price::try_from(ticks) {
         Ok(price) => Ok(price),
         Err(_) => Err(Fail::new("no price")),
     }

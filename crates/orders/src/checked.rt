@@ -59,9 +59,9 @@ impl OrderRow {
     {
         let side = read_side(self.side)?;
         let duration = read_duration(self.duration, self.date)?;
-        let price = Price::new(self.price).ok()?;
-        let rest = Quantity::new(self.rest).ok()?;
-        let participant = Participant::new(self.participant).ok()?;
+        let price = Price::try_from(self.price).ok()?;
+        let rest = Quantity::try_from(self.rest).ok()?;
+        let participant = Participant::try_from(self.participant).ok()?;
         if self.number < 1 || self.place < 1 {
             return None;
         }

@@ -88,7 +88,7 @@ impl Tape for RecordTape<'_> {
                 count: self.used,
             });
         }
-        self.rows[n as usize - 1].mark = mark.number();
+        self.rows[n as usize - 1].mark = mark.into();
         Ok(())
     }
 }

@@ -28,7 +28,7 @@ fn adjusted(
 {
     hold_time(state, time)?;
     let _ = products.product(product)?;
-    Ok(Price::new(price)?)
+    Ok(Price::try_from(price)?)
 }
 
 // One product's reference price from now on.

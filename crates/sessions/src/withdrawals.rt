@@ -33,7 +33,7 @@ fn leaving(
     if is_closed(state.phase) {
         return Err(Refusal::WrongPhase(state.phase));
     }
-    let _ = Participant::new(participant)?;
+    let _ = Participant::try_from(participant)?;
     own_order(table, products.count(), participant, number)
 }
 

@@ -31,7 +31,7 @@ impl Trade {
             seller: self.seller.number(),
             established: self.established.ticks(),
             no_bust: self.no_bust,
-            mark: self.mark.number(),
+            mark: self.mark.into(),
             day: self.day,
         }
     }
@@ -42,12 +42,12 @@ impl TradeRow {
     pub fn trade(self) -> Option<Trade>
         ensures { Checks self result }
     {
-        let price = Price::new(self.price).ok()?;
-        let quantity = Quantity::new(self.quantity).ok()?;
-        let buyer = Participant::new(self.buyer).ok()?;
-        let seller = Participant::new(self.seller).ok()?;
-        let established = Price::new(self.established).ok()?;
-        let mark = Mark::of(self.mark)?;
+        let price = Price::try_from(self.price).ok()?;
+        let quantity = Quantity::try_from(self.quantity).ok()?;
+        let buyer = Participant::try_from(self.buyer).ok()?;
+        let seller = Participant::try_from(self.seller).ok()?;
+        let established = Price::try_from(self.established).ok()?;
+        let mark = Mark::try_from(self.mark).ok()?;
         if self.product > Trade::LAST_PRODUCT
             || self.buy < 1
             || self.sell < 1

@@ -1,8 +1,8 @@
 -- A checked value is known by its number. Assumes nothing.
-use Rattle.std.proofs.Common.{◌≡◌, ℕ, ◌≤◌, Bool, true, false, cond, ◌&&◌, leb, Some, Ok, Err, Result, refl, ap, ◌∙◌, arith}
+use Rattle.std.proofs.Common.{◌≡◌, ℕ, ◌+◌, ◌<◌, ◌≤◌, Bool, true, false, cond, ◌&&◌, leb, Some, Ok, Err, Result, refl, ap, ◌∙◌, arith}
 use mathlib.Core.Path.{PathP, to_path_p}
 use native.Mathlib.Bridge.{le_prop}
-use Rattle.std.proofs.lemmas.Bool.{le-leb, leb-true, and_parts}
+use Rattle.std.proofs.lemmas.Bool.{le-leb, lt-ltb, leb-true, and_parts}
 use Rattle.std.specs.Result.{result_ok}
 use Rattle.terms.specs.Checked.{price_at, quantity_at, participant_at, price_if, quantity_if, participant_if}
 use Rattle.terms.specs.Ranges.{highest_price, largest_quantity, last_participant}
@@ -11,6 +11,8 @@ use Rattle.terms.specs.declared.field.Field.TheVariants.{Price as the_price, Qua
 use Rattle.terms.specs.declared.participant.Participant.{Participant}
 use Rattle.terms.specs.declared.price.Price.{Price}
 use Rattle.terms.specs.declared.quantity.Quantity.{Quantity}
+use Rattle.terms.specs.declared.stamp.Stamp.{Stamp}
+use Rattle.terms.specs.Stamps.{last_stamp, stamp_at, stamp_if, stamp_after}
 
 -- the bounds of two equal numbers are the same facts
 module _ {m n : ℕ} (e : m ≡ n) where
@@ -31,7 +33,19 @@ pub participant_same : (p q : Participant) → p.number ≡ q.number → p ≡ q
 participant_same p q e =
     λ i. record { number = e i; some = above e 1 p.some q.some i; within = below e last_participant p.within q.within i }
 
+pub stamp_same : (s t : Stamp) → s.number ≡ t.number → s ≡ t
+stamp_same s t e = λ i. record { number = e i; given = above e 1 s.given t.given i }
+
 -- and it is what its number makes
+pub stamp_is : (s : Stamp) → stamp_at s.number ≡ s
+stamp_is s = stamp_same _ _ (omega (arith, s.given))
+
+pub stamp_made : (s : Stamp) → stamp_if s.number ≡ Some s
+stamp_made s = rw (le-leb 1 s.number s.given) (ap Some (stamp_is s))
+
+pub stamp_next : (last : ℕ) (s : Stamp) → s.number ≡ last + 1 → last < last_stamp → stamp_after last ≡ Some s
+stamp_next last s e h = rw (lt-ltb last last_stamp h) (ap Some (stamp_same _ _ (omega arith)))
+
 pub price_is : (p : Price) → price_at p.ticks ≡ p
 price_is p = price_same _ _ (omega arith)
 

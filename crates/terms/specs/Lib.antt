@@ -6,3 +6,4 @@ pub mod Determinations
 pub mod Refusals
 pub mod Checked
 pub mod Checks
+pub mod Stamps

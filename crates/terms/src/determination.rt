@@ -4,7 +4,7 @@ ghost use Rattle.terms.specs.Determinations.{mark_by};
 
 use crate::mark::Mark;
 
-#[derive(Clone, Copy)]
+#[derive(Clone, Copy, PartialEq, Eq, Debug)]
 pub enum Determination {
     Upheld,
     Cancelled,

@@ -2,27 +2,20 @@
 ghost use Rattle.std.specs.Prelude.{◌≡◌};
 ghost use Rattle.terms.specs.Numbers.{field_number};
 
-#[derive(Clone, Copy)]
+#[derive(Clone, Copy, PartialEq, Eq, Debug)]
 pub enum Field {
-    Price,
-    Quantity,
-    Participant,
-    Date,
-    FreneticTicks,
-    Settlements,
+    Price = 1,
+    Quantity = 2,
+    Participant = 3,
+    Date = 4,
+    FreneticTicks = 5,
+    Settlements = 6,
 }
 
-impl Field {
-    pub fn number(self) -> u32
-        ensures { result ≡ field_number self }
-    {
-        match self {
-            Field::Price => 1,
-            Field::Quantity => 2,
-            Field::Participant => 3,
-            Field::Date => 4,
-            Field::FreneticTicks => 5,
-            Field::Settlements => 6,
-        }
+impl From<Field> for u32 {
+    ghost from_gives = { λ field n. n ≡ field_number field };
+
+    fn from(field: Field) -> u32 {
+        field as u32
     }
 }

@@ -2,21 +2,17 @@
 ghost use Rattle.std.specs.Prelude.{◌≡◌};
 ghost use Rattle.terms.specs.Numbers.{halt_number};
 
-#[derive(Clone, Copy)]
+#[derive(Clone, Copy, PartialEq, Eq, Debug)]
 pub enum Halt {
-    Nothing,
-    OneOption,
-    WholeMarket,
+    Nothing = 0,
+    OneOption = 1,
+    WholeMarket = 2,
 }
 
-impl Halt {
-    pub fn number(self) -> u32
-        ensures { result ≡ halt_number self }
-    {
-        match self {
-            Halt::Nothing => 0,
-            Halt::OneOption => 1,
-            Halt::WholeMarket => 2,
-        }
+impl From<Halt> for u32 {
+    ghost from_gives = { λ halt n. n ≡ halt_number halt };
+
+    fn from(halt: Halt) -> u32 {
+        halt as u32
     }
 }

@@ -15,4 +15,5 @@ pub mod quantity;
 pub mod refusal;
 pub mod right;
 pub mod side;
+pub mod stamp;
 pub mod verdict;

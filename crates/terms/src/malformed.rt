@@ -2,7 +2,7 @@
 ghost use Rattle.std.specs.Prelude.{◌≡◌};
 ghost use Rattle.terms.specs.Numbers.{malformed_number};
 
-#[derive(Clone, Copy)]
+#[derive(Clone, Copy, PartialEq, Eq, Debug)]
 pub enum Malformed {
     // fewer than 1 or more than 32 products or rungs
     Count,
@@ -12,11 +12,11 @@ pub enum Malformed {
     Entry(u32),
 }
 
-impl Malformed {
-    pub fn number(self) -> u32
-        ensures { result ≡ malformed_number self }
-    {
-        match self {
+impl From<Malformed> for u32 {
+    ghost from_gives = { λ fault n. n ≡ malformed_number fault };
+
+    fn from(fault: Malformed) -> u32 {
+        match fault {
             Malformed::Count => 32,
             Malformed::DayLimit => 33,
             Malformed::Entry(n) => n,

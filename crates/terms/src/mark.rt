@@ -1,38 +1,40 @@
 // What a trade on the tape reads: every new one stands, and only a case changes it.
-ghost use Rattle.std.specs.Prelude.{◌≡◌, Some};
+ghost use Rattle.std.specs.Prelude.{◌≡◌, Some, Err};
+ghost use Rattle.std.specs.Result.{result_ok};
 ghost use Rattle.terms.specs.Numbers.{mark_number, mark_of};
 
-#[derive(Clone, Copy)]
+#[derive(Clone, Copy, PartialEq, Eq, Debug)]
 pub enum Mark {
-    Stands,
-    Considered,
-    Upheld,
-    Cancelled,
+    Stands = 0,
+    Considered = 1,
+    Upheld = 2,
+    Cancelled = 3,
 }
 
-impl Mark {
-    pub fn number(self) -> u32
-        ensures value { result ≡ mark_number self }
-        ensures back { mark_of result ≡ Some self }
-    {
-        match self {
-            Mark::Stands => 0,
-            Mark::Considered => 1,
-            Mark::Upheld => 2,
-            Mark::Cancelled => 3,
-        }
-    }
+impl From<Mark> for u32 {
+    ghost from_gives = { λ mark n. (n ≡ mark_number mark) × (mark_of n ≡ Some mark) };
 
-    // The mark of a number; none for a number that no mark has.
-    pub fn of(number: u32) -> Option<Mark>
-        ensures { result ≡ mark_of number }
-    {
+    fn from(mark: Mark) -> u32 {
+        mark as u32
+    }
+}
+
+// A number that no mark has.
+#[derive(Clone, Copy, PartialEq, Eq, Debug)]
+pub struct NoMark(pub u32);
+
+impl TryFrom<u32> for Mark {
+    type Error = NoMark;
+
+    ghost try_from_gives = { λ number r. result_ok r ≡ mark_of number };
+
+    fn try_from(number: u32) -> Result<Mark, NoMark> {
         match number {
-            0 => Some(Mark::Stands),
-            1 => Some(Mark::Considered),
-            2 => Some(Mark::Upheld),
-            3 => Some(Mark::Cancelled),
-            _ => None,
+            0 => Ok(Mark::Stands),
+            1 => Ok(Mark::Considered),
+            2 => Ok(Mark::Upheld),
+            3 => Ok(Mark::Cancelled),
+            _ => Err(NoMark(number)),
         }
     }
 }

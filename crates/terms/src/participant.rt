@@ -2,9 +2,9 @@
 ghost use Rattle.std.specs.Prelude.{◌≡◌, ◌≤◌};
 ghost use Rattle.terms.specs.Ranges.{last_participant};
 
-pub mod makes;
+use crate::field::Field;
 
-#[derive(Clone, Copy)]
+#[derive(Clone, Copy, PartialEq, Eq, PartialOrd, Ord, Debug)]
 pub struct Participant {
     number: u32,
     ghost some: { 1 ≤ number },
@@ -18,5 +18,20 @@ impl Participant {
         ensures { result ≡ self.number }
     {
         self.number
+    }
+}
+
+impl TryFrom<u32> for Participant {
+    ghost use Rattle.terms.specs.Checked.{participant_if};
+
+    type Error = Field;
+
+    ghost try_from_gives = { λ number r. r ≡ participant_if number };
+
+    fn try_from(number: u32) -> Result<Participant, Field> {
+        if number < 1 || number > Participant::LAST {
+            return Err(Field::Participant);
+        }
+        Ok(Participant { number })
     }
 }

@@ -2,25 +2,19 @@
 ghost use Rattle.std.specs.Prelude.{◌≡◌};
 ghost use Rattle.terms.specs.Numbers.{phase_number};
 
-#[derive(Clone, Copy)]
+#[derive(Clone, Copy, PartialEq, Eq, Debug)]
 pub enum Phase {
-    Closed,
-    BeforeNight,
-    NightSession,
-    BeforeDay,
-    DaySession,
+    Closed = 0,
+    BeforeNight = 1,
+    NightSession = 2,
+    BeforeDay = 3,
+    DaySession = 4,
 }
 
-impl Phase {
-    pub fn number(self) -> u32
-        ensures { result ≡ phase_number self }
-    {
-        match self {
-            Phase::Closed => 0,
-            Phase::BeforeNight => 1,
-            Phase::NightSession => 2,
-            Phase::BeforeDay => 3,
-            Phase::DaySession => 4,
-        }
+impl From<Phase> for u32 {
+    ghost from_gives = { λ phase n. n ≡ phase_number phase };
+
+    fn from(phase: Phase) -> u32 {
+        phase as u32
     }
 }

@@ -9,8 +9,10 @@ use crate::mark::Mark;
 use crate::missing::Missing;
 use crate::phase::Phase;
 use crate::price::Price;
+use std::error::Error;
+use std::fmt;
 
-#[derive(Clone, Copy)]
+#[derive(Clone, Copy, PartialEq, Eq, Debug)]
 pub enum Refusal {
     // a listing or a ladder breaks its rules
     Malformed(Malformed),
@@ -83,11 +85,11 @@ impl Refusal {
         ensures { result ≡ refusal_detail self }
     {
         match self {
-            Refusal::Malformed(part) => part.number(),
+            Refusal::Malformed(part) => part.into(),
             Refusal::TimeFell(last) => last,
-            Refusal::WrongPhase(phase) => phase.number(),
+            Refusal::WrongPhase(phase) => phase.into(),
             Refusal::NotListed(product) => product,
-            Refusal::OutOfRange(lowest) => lowest.number(),
+            Refusal::OutOfRange(lowest) => lowest.into(),
             Refusal::Halted(product) => product,
             Refusal::NotResting(order) => order,
             Refusal::BeyondSweep(sweep) => sweep.ticks(),
@@ -98,10 +100,10 @@ impl Refusal {
             Refusal::Crossed(product) => product,
             Refusal::Missing(trade) => trade.number,
             Refusal::NoSide(trade) => trade,
-            Refusal::Marked(mark) => mark.number(),
+            Refusal::Marked(mark) => mark.into(),
             Refusal::TooLate(seconds) => seconds,
             Refusal::NoBust(established) => established.ticks(),
-            Refusal::NotConsidered(mark) => mark.number(),
+            Refusal::NotConsidered(mark) => mark.into(),
         }
     }
 }
@@ -129,3 +131,33 @@ impl From<Missing> for Refusal {
         Refusal::Missing(fault)
     }
 }
+
+// Its number, its detail, and what it means.
+impl fmt::Display for Refusal {
+    fn fmt<W: fmt::Write>(&self, f: &mut fmt::Formatter<W>) -> fmt::Result {
+        let words = match self {
+            Refusal::Malformed(_) => "the listing breaks its rules",
+            Refusal::TimeFell(_) => "the time is before the last accepted call",
+            Refusal::WrongPhase(_) => "not in this phase",
+            Refusal::NotListed(_) => "no such product is listed",
+            Refusal::OutOfRange(_) => "out of range",
+            Refusal::Halted(_) => "halted",
+            Refusal::NotResting(_) => "no such order rests for this participant",
+            Refusal::BeyondSweep(_) => "the price is beyond the sweep price",
+            Refusal::TableFull(_) => "no place of the order table is free",
+            Refusal::TapeFull(_) => "the tape cannot take the trades due",
+            Refusal::Exhausted => "no stamp or day is left",
+            Refusal::NothingHalted => "nothing is halted",
+            Refusal::Crossed(_) => "a best buy reaches a best sell",
+            Refusal::Missing(_) => "no such trade is on the tape",
+            Refusal::NoSide(_) => "the participant is no side of the trade",
+            Refusal::Marked(_) => "the trade does not stand unquestioned",
+            Refusal::TooLate(_) => "the request came too late",
+            Refusal::NoBust(_) => "the price is within the no-bust ticks",
+            Refusal::NotConsidered(_) => "the trade is not being considered",
+        };
+        write!(f, "{} {}: {words}", self.number(), self.detail())
+    }
+}
+
+impl Error for Refusal {}

@@ -35,7 +35,7 @@ impl PricingModel for Ladder {
         let Some(rung) = self.rung_at(moneyness(right, strike, underlying)) else {
             return Price::ZERO;
         };
-        match Price::new(rung.price) {
+        match Price::try_from(rung.price) {
             Ok(price) => price,
             Err(_) => unreachable(),
         }
