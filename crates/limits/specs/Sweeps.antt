@@ -26,3 +26,8 @@ beyond Sell price limit = nat_lt price.ticks limit.ticks
 -- a price beyond its sweep price gets 11 with the sweep price
 abbrev pub sweep_check : Side → Price → Price → Option Refusal
 sweep_check side price sweep = unless (not (beyond side price sweep)) (BeyondSweep sweep)
+
+-- a limit is held to its sweep price; a market order has none
+abbrev pub limit_held : Side → Option Price → Price → Option Refusal
+limit_held side None sweep = None
+limit_held side (Some price) sweep = sweep_check side price sweep

@@ -4,7 +4,7 @@ ghost use Rattle.limits.specs.Ranges.{tradeable_range, tradeable};
 
 use terms::price::Price;
 
-#[derive(Clone, Copy)]
+#[derive(Clone, Copy, PartialEq, Eq, Debug)]
 pub struct Range {
     pub low: Price,
     pub high: Price,
@@ -24,6 +24,6 @@ impl Range {
     pub fn holds(self, price: Price) -> bool
         ensures { result ≡ tradeable self.low.ticks self.high.ticks price.ticks }
     {
-        (self.low.ticks() <= price.ticks()) & (price.ticks() <= self.high.ticks())
+        self.low <= price && price <= self.high
     }
 }

@@ -1,7 +1,7 @@
 // The sweep price: the furthest that an arriving order may reach.
 ghost use Rattle.std.specs.Prelude.{◌≡◌};
 ghost use Rattle.terms.specs.Checks.{answered};
-ghost use Rattle.limits.specs.Sweeps.{anchor_price, sweep_price, beyond, sweep_check};
+ghost use Rattle.limits.specs.Sweeps.{anchor_price, sweep_price, beyond, sweep_check, limit_held};
 
 use terms::price::Price;
 use terms::refusal::Refusal;
@@ -11,10 +11,7 @@ use terms::side::Side;
 pub fn anchor(best_opposite: Option<Price>, reference: Price) -> Price
     ensures { result ≡ anchor_price best_opposite reference }
 {
-    match best_opposite {
-        Some(best) => best,
-        None => reference,
-    }
+    best_opposite.unwrap_or(reference)
 }
 
 pub fn sweep_price(side: Side, anchor: Price, ticks: u32) -> Price
@@ -31,8 +28,18 @@ pub fn is_beyond(side: Side, price: Price, limit: Price) -> bool
     ensures { result ≡ beyond side price limit }
 {
     match side {
-        Side::Buy => price.ticks() > limit.ticks(),
-        Side::Sell => price.ticks() < limit.ticks(),
+        Side::Buy => price > limit,
+        Side::Sell => price < limit,
+    }
+}
+
+// A limit is held to the sweep price; a market order has none, and is at it.
+pub fn hold_limit(side: Side, limit: Option<Price>, sweep: Price) -> Result<(), Refusal>
+    ensures { result ≡ answered (limit_held side limit sweep) tt }
+{
+    match limit {
+        Some(price) if is_beyond(side, price, sweep) => Err(Refusal::BeyondSweep(sweep)),
+        _ => Ok(()),
     }
 }
 
@@ -46,9 +53,6 @@ pub fn hold_to_sweep(
 ) -> Result<(), Refusal>
     ensures { result ≡ answered (sweep_check side price (sweep_price side (anchor_price best_opposite reference) ticks)) tt }
 {
-    let limit = sweep_price(side, anchor(best_opposite, reference), ticks);
-    if is_beyond(side, price, limit) {
-        return Err(Refusal::BeyondSweep(limit));
-    }
-    Ok(())
+    let sweep = sweep_price(side, anchor(best_opposite, reference), ticks);
+    hold_limit(side, Some(price), sweep)
 }
