@@ -15,32 +15,29 @@ use terms::refusal::Refusal;
 use terms::right::Right;
 use terms::side::Side;
 
-fn price(ticks: u32) -> Result<Price, Fail> {
-    match Price::try_from(ticks) {
-        Ok(price) => Ok(price),
-        Err(_) => Err(Fail::new("no price")),
-    }
+fn price(ticks: u32) -> Result<Price, Field> {
+    Price::try_from(ticks)
 }
 
 #[test]
 fn checked_numbers_at_their_edges(rt: HostRuntime) -> Result<(), Fail> {
     assert_eq!(rt; price(0)?.ticks(), 0);
     assert_eq!(rt; price(1_000_000)?.ticks(), 1_000_000);
-    assert!(rt; matches!(Price::try_from(1_000_001), Err(Field::Price)));
-    assert!(rt; matches!(Quantity::try_from(0), Err(Field::Quantity)));
+    assert_eq!(rt; Price::try_from(1_000_001), Err(Field::Price));
+    assert_eq!(rt; Quantity::try_from(0), Err(Field::Quantity));
     assert!(rt; Quantity::try_from(1).is_ok() && Quantity::try_from(1_000_000).is_ok());
-    assert!(rt; matches!(Quantity::try_from(1_000_001), Err(Field::Quantity)));
-    assert!(rt; matches!(Participant::try_from(0), Err(Field::Participant)));
+    assert_eq!(rt; Quantity::try_from(1_000_001), Err(Field::Quantity));
+    assert_eq!(rt; Participant::try_from(0), Err(Field::Participant));
     assert!(rt; Participant::try_from(1).is_ok() && Participant::try_from(999).is_ok());
-    assert!(rt; matches!(Participant::try_from(1_000), Err(Field::Participant)));
+    assert_eq!(rt; Participant::try_from(1_000), Err(Field::Participant));
     Ok(())
 }
 
 fn held(side: Side, ticks: u32, best: Option<Price>) -> Result<(u32, u32), Fail> {
-    match hold_to_sweep(side, price(ticks)?, best, price(6431)?, 5) {
-        Ok(()) => Ok((0, 0)),
-        Err(refusal) => Ok((refusal.number(), refusal.detail())),
-    }
+    Ok(
+        hold_to_sweep(side, price(ticks)?, best, price(6431)?, 5)
+            .map_or_else(|refusal| (refusal.number(), refusal.detail()), |()| (0, 0)),
+    )
 }
 
 #[test]
@@ -119,17 +116,12 @@ fn intrinsic_is_what_the_option_is_in_the_money(rt: HostRuntime) -> Result<(), F
 }
 
 fn fault(rt: &impl Abort, rungs: &[Rung]) -> Result<u32, Fail> {
-    match Ladder::new(rungs) {
-        Ok(ladder) => {
-            let _ = ladder;
-            Err(Fail::new("a ladder was made"))
-        }
-        Err(malformed) => {
-            let refusal: Refusal = malformed.into();
-            assert_eq!(rt; refusal.number(), 4);
-            Ok(refusal.detail())
-        }
-    }
+    let Err(malformed) = Ladder::new(rungs) else {
+        return Err(Fail::new("a ladder was made"));
+    };
+    let refusal = Refusal::from(malformed);
+    assert_eq!(rt; refusal.number(), 4);
+    Ok(refusal.detail())
 }
 
 fn call(ladder: &Ladder, strike: u32, underlying: u32) -> Result<u32, Fail> {
@@ -142,9 +134,7 @@ fn call(ladder: &Ladder, strike: u32, underlying: u32) -> Result<u32, Fail> {
 
 #[test]
 fn a_ladder_of_one_rung(rt: HostRuntime) -> Result<(), Fail> {
-    let Ok(ladder) = Ladder::new(&[Rung { level: 0, price: 7 }]) else {
-        return Err(Fail::new("no ladder"));
-    };
+    let ladder = Ladder::new(&[Rung { level: 0, price: 7 }])?;
     assert_eq!(rt; call(&ladder, 101, 100)?, 0);
     assert_eq!(rt; call(&ladder, 100, 100)?, 7);
     assert_eq!(rt; call(&ladder, 0, 1_000_000)?, 7);
@@ -156,10 +146,9 @@ fn a_ladder_of_one_rung(rt: HostRuntime) -> Result<(), Fail> {
 }
 
 fn rungs() -> [Rung; 32] {
-    let mut rungs = [Rung { level: 0, price: 0 }; 32];
-    for k in 0..32usize {
-        let step = k as u32;
-        rungs[k] = Rung {
+    let mut rungs = [Rung::default(); 32];
+    for (rung, step) in rungs.iter_mut().zip(0..32u32) {
+        *rung = Rung {
             level: step as i32 * 10,
             price: 100 + step,
         };
@@ -169,9 +158,7 @@ fn rungs() -> [Rung; 32] {
 
 #[test]
 fn a_ladder_of_thirty_two_rungs(rt: HostRuntime) -> Result<(), Fail> {
-    let Ok(ladder) = Ladder::new(&rungs()) else {
-        return Err(Fail::new("no ladder"));
-    };
+    let ladder = Ladder::new(&rungs())?;
     assert_eq!(rt; call(&ladder, 1, 0)?, 0);
     assert_eq!(rt; call(&ladder, 0, 0)?, 100);
     assert_eq!(rt; call(&ladder, 0, 9)?, 100);
@@ -184,7 +171,7 @@ fn a_ladder_of_thirty_two_rungs(rt: HostRuntime) -> Result<(), Fail> {
 #[test]
 fn ladders_that_break_their_rules(rt: HostRuntime) -> Result<(), Fail> {
     assert_eq!(rt; fault(&rt, &[])?, 32);
-    assert_eq!(rt; fault(&rt, &[Rung { level: 0, price: 0 }; 33])?, 32);
+    assert_eq!(rt; fault(&rt, &[Rung::default(); 33])?, 32);
     assert_eq!(rt;
         fault(
             &rt,

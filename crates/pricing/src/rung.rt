@@ -1,5 +1,5 @@
 // One rung of a ladder, as plain numbers.
-#[derive(Clone, Copy)]
+#[derive(Clone, Copy, PartialEq, Eq, Default, Debug)]
 pub struct Rung {
     pub level: i32,
     pub price: u32,

@@ -3,7 +3,7 @@ use Rattle.std.proofs.Common.{◌≡◌, ℕ, ◌+◌, ◌<◌, ◌≤◌, Bool,
 use mathlib.Core.Path.{PathP, to_path_p}
 use native.Mathlib.Bridge.{le_prop}
 use Rattle.std.proofs.lemmas.Bool.{le-leb, lt-ltb, leb-true, and_parts}
-use Rattle.std.specs.Result.{result_ok}
+use Rattle.std.specs.Result.{IsOk, result_ok}
 use Rattle.terms.specs.Checked.{price_at, quantity_at, participant_at, price_if, quantity_if, participant_if}
 use Rattle.terms.specs.Ranges.{highest_price, largest_quantity, last_participant}
 use Rattle.terms.specs.declared.field.Field.{Field}
@@ -65,6 +65,9 @@ pub participant_made : (p : Participant) → participant_if p.number ≡ Ok p
 participant_made p = rw (le-leb 1 p.number p.some, le-leb p.number last_participant p.within) (ap Ok (participant_is p))
 
 -- a number in range is not refused
+pub price_ok : (n : ℕ) → n ≤ highest_price → IsOk (price_if n)
+price_ok n h = rw (le-leb n highest_price h) refl
+
 pub price_passes : (n : ℕ) (f : Field) → n ≤ highest_price → Err f ≡ price_if n → ⊥
 price_passes n f h e =
     let made : price_if n ≡ Ok (price_at n) = rw (le-leb n highest_price h) in

@@ -3,4 +3,9 @@ use Rattle.pricing.specs.Rungs.{at_fault}
 use Rattle.pricing.proofs.ladder.Ladder.new.Given as goal
 
 abbrev pub invariant-loop-k : goal.invariant-loop-k
-invariant-loop-k l = ((j : ℕ) → j < l.k → at_fault l.rungs j ≡ false) × (take l.k l.own ≡ take l.k l.rungs) × (length l.own ≡ 32)
+invariant-loop-k l =
+    record {
+      sound : (j : ℕ) → j < l.k → at_fault l.rungs j ≡ false;
+      copied : take l.k l.own ≡ take l.k l.rungs;
+      room : length l.own ≡ 32;
+    }
