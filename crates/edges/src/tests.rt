@@ -147,10 +147,10 @@ fn a_ladder_of_one_rung(rt: HostRuntime) -> Result<(), Fail> {
 
 fn rungs() -> [Rung; 32] {
     let mut rungs = [Rung::default(); 32];
-    for (rung, step) in rungs.iter_mut().zip(0..32u32) {
+    for (k, rung) in rungs.iter_mut().enumerate() {
         *rung = Rung {
-            level: step as i32 * 10,
-            price: 100 + step,
+            level: k as i32 * 10,
+            price: k as u32 + 100,
         };
     }
     rungs
