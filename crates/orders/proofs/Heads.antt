@@ -30,7 +30,7 @@ module _ (lt : Slot → Slot → Bool) (p : Slot → Bool) where
   head_insert x [] = refl
   head_insert x (y ∷ ys) = head_either (lt x y) x y (y ∷ ys) (insert lt x ys)
 
-  head_with : (x : Slot) (xs : List Slot) → head (sorted lt (filter p (x ∷ xs))) ≡ offer lt p x (head (sorted lt (filter p xs)))
+  pub head_with : (x : Slot) (xs : List Slot) → head (sorted lt (filter p (x ∷ xs))) ≡ offer lt p x (head (sorted lt (filter p xs)))
   head_with x xs = go (p x)
     where
       go : (b : Bool) → head (sorted lt (cond b (x ∷ filter p xs) (filter p xs))) ≡ cond b (lead lt x (head (sorted lt (filter p xs)))) (head (sorted lt (filter p xs)))

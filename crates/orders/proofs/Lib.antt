@@ -4,3 +4,4 @@ pub mod Cursor
 pub mod Found
 pub mod Leaving
 pub mod Ordered
+pub mod Onward

@@ -63,12 +63,11 @@ impl BookSide for Buys {
     }
 
     fn comes_first(a: Order, b: Order) -> bool {
-        let (p, q) = (a.price.ticks(), b.price.ticks());
-        (q < p) | ((q == p) & (a.place < b.place))
+        a.price > b.price || (a.price == b.price && a.place < b.place)
     }
 
     fn reached(limit: Price, price: Price) -> bool {
-        limit.ticks() <= price.ticks()
+        limit <= price
     }
 }
 
@@ -92,11 +91,10 @@ impl BookSide for Sells {
     }
 
     fn comes_first(a: Order, b: Order) -> bool {
-        let (p, q) = (a.price.ticks(), b.price.ticks());
-        (p < q) | ((p == q) & (a.place < b.place))
+        a.price < b.price || (a.price == b.price && a.place < b.place)
     }
 
     fn reached(limit: Price, price: Price) -> bool {
-        price.ticks() <= limit.ticks()
+        price <= limit
     }
 }
