@@ -1,8 +1,7 @@
 -- A table whose places are gone through one by one. Assumes nothing.
-use Rattle.std.proofs.Common.{◌≡◌, ℕ, ◌+◌, ◌-◌, ◌<◌, ◌≤◌, min, ◌⊎◌, Bool, true, false, cond, count_by, List, ◌++◌, map, length, get_or, take, drop, set, sym, ap, ◌∙◌, inl, inr, arith, length-append, length-drop}
+use Rattle.std.proofs.Common.{◌≡◌, ℕ, ◌+◌, ◌-◌, ◌<◌, ◌≤◌, min, Bool, true, false, cond, count_by, List, ◌++◌, map, length, get_or, take, drop, set, sym, ap, ◌∙◌, arith, length-append, length-drop}
 use Rattle.std.proofs.lemmas.List.Edits.{map_over_more}
-use Rattle.std.proofs.lemmas.List.{get_or-append_right, get_or-drop, get_or_default, length-map, length-take, take_all, drop_all, append-nil}
-use Rattle.std.proofs.lemmas.Bool.{cases_lt}
+use Rattle.std.proofs.lemmas.List.{get_or-append_right, get_or-drop, get_or_default, length-map, length-take, take_all, take_min, drop_all, drop_min, append-nil}
 use Rattle.std.proofs.lemmas.List.Sums.{count_by_more_yes, count_by_more_no}
 use Rattle.orders.specs.Queue.{counted, most_places}
 use Rattle.orders.specs.Rows.{free}
@@ -46,11 +45,7 @@ module _ (goes : OrderRow → Bool) (xs ys : List OrderRow) (i : ℕ) (in' : i <
 -- all places that count are gone through
 pub all_counted : (xs : List OrderRow) (i : ℕ) → i ≡ min most_places (length xs) → (take i xs ≡ counted xs) × (drop i xs ≡ drop most_places xs)
 unfolding counted
-all_counted xs i e = go (cases_lt (length xs) most_places)
-  where
-    go : (length xs < most_places) ⊎ (most_places ≤ length xs) → (take i xs ≡ take most_places xs) × (drop i xs ≡ drop most_places xs)
-    go (inl h) = (take_all i xs (omega arith) ∙ sym (take_all most_places xs (omega arith)), drop_all i xs (omega arith) ∙ sym (drop_all most_places xs (omega arith)))
-    go (inr h) = let z : i ≡ most_places = omega arith in (ap (λ (n : ℕ). take n xs) z, ap (λ (n : ℕ). drop n xs) z)
+all_counted xs i e = rw e (take_min most_places xs, drop_min most_places xs)
 
 -- and every place behind them is as it was
 pub all_left : (f : OrderRow → OrderRow) (table places : List OrderRow) (n i : ℕ) → n ≡ min most_places (length table) → length (take n table) ≤ i → places ≡ map f (take i (take n table)) ++ drop i (take n table) → places ++ drop n table ≡ map f (counted table) ++ drop most_places table

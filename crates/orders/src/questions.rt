@@ -70,12 +70,6 @@ pub fn find(table: &[OrderRow], products: u32, number: u32) -> Option<Entry>
     None
 }
 
-fn is_free(row: OrderRow, products: u32) -> bool
-    ensures { result ≡ not (stands products row) }
-{
-    standing(row, products).is_none()
-}
-
 // A free place that counts.
 pub fn free_place(table: &[OrderRow], products: u32) -> Result<usize, TableFull>
     ensures { FreePlace products table.now result }
@@ -83,7 +77,7 @@ pub fn free_place(table: &[OrderRow], products: u32) -> Result<usize, TableFull>
     let places = counted(table);
     places
         .iter()
-        .position(|row| is_free(*row, products))
+        .position(|row| standing(*row, products).is_none())
         .ok_or(TableFull {
             places: places.len() as u32,
         })

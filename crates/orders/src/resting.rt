@@ -12,6 +12,7 @@ use crate::order::Order;
 use crate::questions::{free_place, standing};
 use crate::row::OrderRow;
 
+#[tactic(auto, using(std::proofs::lemmas::List::set_past))]
 fn write(table: &mut [OrderRow], index: usize, row: OrderRow)
     ensures { table.new ≡ slice_set table.old index row }
 {

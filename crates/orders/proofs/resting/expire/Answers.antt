@@ -11,13 +11,14 @@ loop-row-preserved c =
     let i = c.loop-row.row-index in
     let places = take c.min-places.result c.args.table.now in
     let in' : i < length places = omega arith in
-    elim c.if-has_left.branch
-    [ then-has_left w ↦
-      let next = goes_next goes places c.loop-row.row-items i in' c.loop-row.invariant.0 (sym c.has_left.ensures ∙ w.if-has_left.true) in
-      (w.row-items-is ∙ next.0, omega (arith, next.1), omega arith)
-    | else-has_left w ↦
-      let next = stays_next goes places c.loop-row.row-items i in' c.loop-row.invariant.0 (sym c.has_left.ensures ∙ w.if-has_left.false) in
-      (w.row-items-is ∙ next.0, omega (arith, next.1), omega arith) ]
+    elim c.if-has_left.branch [
+      | then-has_left w ↦
+          let next = goes_next goes places c.loop-row.row-items i in' c.loop-row.invariant.0 (sym c.has_left.ensures ∙ w.if-has_left.true) in
+          (w.row-items-is ∙ next.0, omega (arith, next.1), omega arith)
+      | else-has_left w ↦
+          let next = stays_next goes places c.loop-row.row-items i in' c.loop-row.invariant.0 (sym c.has_left.ensures ∙ w.if-has_left.false) in
+          (w.row-items-is ∙ next.0, omega (arith, next.1), omega arith)
+    ]
 
 pub returns-clause-table : goal.returns-clause-table
 returns-clause-table c =

@@ -1,7 +1,7 @@
-use Rattle.std.proofs.Common.{◌≡◌, ◌<◌, Bool, List, length, get_or, IfSome, Some, None, Option, sym, ap, ◌∙◌, arith}
+use Rattle.std.proofs.Common.{◌≡◌, ◌<◌, Bool, List, length, take, IfSome, Some, None, Option, ◌∙◌, arith}
 use Rattle.std.proofs.lemmas.List.{take_all}
 use Rattle.std.specs.Option.{option_map}
-use Rattle.orders.specs.Queue.{Slot, slot, slot_of, before, wanted, head, offer, counted}
+use Rattle.orders.specs.Queue.{Slot, slot_of, before, wanted, head, counted}
 use Rattle.orders.specs.Rows.{free}
 use Rattle.orders.specs.declared.order.Entry.{Entry}
 use Rattle.orders.specs.declared.row.OrderRow.{OrderRow}
@@ -19,9 +19,8 @@ loop-index-preserved g c =
     let i = c.loop-index.index in
     let lt = before s.first in
     let p = wanted s.code s.first c.args.product (option_map slot_of c.args.after) in
-    c.offered-found.ensures
-    ∙ ap (offer lt p (slot i (get_or rows i free))) c.loop-index.invariant
-    ∙ sym (part_more lt (ranks s.first met.oneway met.chain) p rows i free (omega arith))
+    let more = part_more lt (ranks s.first met.oneway met.chain) p rows i free (omega arith) in
+    cc (c.offered-found.ensures, c.loop-index.invariant)
 
 inside : (lt : Slot → Slot → Bool) (p : Slot → Bool) (rows : List OrderRow) (o : Option Entry) → option_map slot_of o ≡ head (part lt p 0 (counted rows)) → IfSome o (λ e. e.index < length rows)
 inside lt p rows None h = tt
@@ -30,7 +29,7 @@ inside lt p rows (Some e) h = (head_in lt p rows (slot_of e) h).0
 pub returns-clause-within : goal.returns-clause-within
 returns-clause-within g c =
     let s = g.S.BookSide in
-    let lt = before s.first in
+    let table = c.args.table.now in
     let p = wanted s.code s.first c.args.product (option_map slot_of c.args.after) in
-    inside lt p c.args.table.now c.loop-index.found
-    (c.loop-index.invariant ∙ ap (λ rows. head (part lt p 0 rows)) (take_all c.loop-index.index c.counted-row-items.result.now (omega arith) ∙ c.counted-row-items.ensures.rows))
+    let whole : take c.loop-index.index c.counted-row-items.result.now ≡ counted table = take_all _ _ (omega arith) ∙ c.counted-row-items.ensures.rows in
+    inside (before s.first) p table c.loop-index.found (rw whole at c.loop-index.invariant)
