@@ -1,5 +1,6 @@
 // Tables of every size and content.
 use orders::close::Close;
+use orders::full::TableFull;
 use orders::questions::{find, free_place, is_crossed, top};
 use orders::resting::expire;
 use orders::row::OrderRow;
@@ -24,18 +25,15 @@ fn buy(number: u32, place: u32, price: u32) -> OrderRow {
 }
 
 fn first(table: &[OrderRow]) -> Option<usize> {
-    match best::<Buys>(table, 0) {
-        Some(e) => Some(e.index),
-        None => None,
-    }
+    best::<Buys>(table, 0).map(|e| e.index)
 }
 
 #[test]
 fn an_empty_table_and_one_place(rt: HostRuntime) {
-    assert!(rt; first(&[]).is_none() && free_place(&[], 1) == Err(0));
+    assert!(rt; first(&[]).is_none() && free_place(&[], 1) == Err(TableFull { places: 0 }));
     assert!(rt; first(&[OrderRow::FREE]).is_none() && free_place(&[OrderRow::FREE], 1) == Ok(0));
     let one = [buy(1, 1, 100)];
-    assert!(rt; first(&one) == Some(0) && free_place(&one, 1) == Err(1));
+    assert!(rt; first(&one) == Some(0) && free_place(&one, 1) == Err(TableFull { places: 1 }));
 }
 
 #[test]

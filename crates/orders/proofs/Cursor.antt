@@ -56,8 +56,8 @@ module _ (first : OrderRow → OrderRow → Bool) (oneway : (a b : OrderRow) →
       record {
         oneway = λ x y h. open_oneway (first x.row y.row) (first y.row x.row) (ltb x.index y.index) (ltb y.index x.index) (oneway x.row y.row) (λ l. le-ltb _ _ (omega (arith, ltb-true x.index y.index l))) h;
         chain = λ x y z h k.
-            let a = open_false _ _ _ h in
-            let b = open_false _ _ _ k in
+            let a : (first x.row y.row ≡ false) × (first y.row x.row ≡ false → ltb x.index y.index ≡ false) = open_false _ _ _ h in
+            let b : (first y.row z.row ≡ false) × (first z.row y.row ≡ false → ltb y.index z.index ≡ false) = open_false _ _ _ k in
             open_from (first x.row z.row) (first z.row x.row) (ltb x.index z.index) (chain x.row y.row z.row a.0 b.0)
             (λ o. le-ltb _ _ (omega (
               arith,
@@ -65,7 +65,7 @@ module _ (first : OrderRow → OrderRow → Bool) (oneway : (a b : OrderRow) →
               ltb-false y.index z.index (b.1 (chain z.row x.row y.row o a.0)),
             )));
         total = λ x y n h.
-            let a = open_false _ _ _ h in
+            let a : (first x.row y.row ≡ false) × (first y.row x.row ≡ false → ltb x.index y.index ≡ false) = open_false _ _ _ h in
             open_true (first x.row y.row) (first y.row x.row) (ltb y.index x.index) a.0 (λ o. lt-ltb _ _ (omega (arith, n, ltb-false x.index y.index (a.1 o))));
       }
 

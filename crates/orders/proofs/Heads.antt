@@ -1,8 +1,7 @@
 -- The head of a queue, place by place from the table's end. Assumes nothing.
-use Rattle.std.proofs.Common.{◌≡◌, ℕ, suc, ◌+◌, ◌<◌, ◌≤◌, min, Bool, true, false, cond, List, [], ◌∷◌, length, get_or, drop, set, Some, filter, Option, sym, refl, ap, ◌∙◌, add-one, arith, length-take, get_or-take}
+use Rattle.std.proofs.Common.{◌≡◌, ℕ, ◌<◌, min, Bool, true, false, cond, List, [], ◌∷◌, length, get_or, set, Some, filter, refl, length-take, get_or-take}
 use lib.Seq.{take-set-lt}
-use Rattle.std.proofs.lemmas.List.{drop_more}
-use Rattle.orders.specs.Queue.{Slot, slot, slots, insert, sorted, head, lead, offer, counted, most_places}
+use Rattle.orders.specs.Queue.{Slot, slots, insert, sorted, head, lead, offer, counted, most_places}
 use Rattle.orders.specs.declared.row.OrderRow.{OrderRow}
 
 pub length_counted : (rows : List OrderRow) → length (counted rows) ≡ min most_places (length rows)
@@ -30,21 +29,9 @@ module _ (lt : Slot → Slot → Bool) (p : Slot → Bool) where
   head_insert x [] = refl
   head_insert x (y ∷ ys) = head_either (lt x y) x y (y ∷ ys) (insert lt x ys)
 
-  head_with : (x : Slot) (xs : List Slot) → head (sorted lt (filter p (x ∷ xs))) ≡ offer lt p x (head (sorted lt (filter p xs)))
+  pub head_with : (x : Slot) (xs : List Slot) → head (sorted lt (filter p (x ∷ xs))) ≡ offer lt p x (head (sorted lt (filter p xs)))
   head_with x xs = go (p x)
     where
       go : (b : Bool) → head (sorted lt (cond b (x ∷ filter p xs) (filter p xs))) ≡ cond b (lead lt x (head (sorted lt (filter p xs)))) (head (sorted lt (filter p xs)))
       go true = head_insert x (sorted lt (filter p xs))
       go false = refl
-
-  part_more : (rows : List OrderRow) (k : ℕ) (d : OrderRow) → k < length rows → offer lt p (slot k (get_or rows k d)) (head (part lt p (k + 1) (drop (k + 1) rows))) ≡ head (part lt p k (drop k rows))
-  part_more rows k d h =
-      rw (drop_more rows k d h, add-one) (sym (head_with (slot k (get_or rows k d)) (slots (suc k) (drop (suc k) rows))))
-
-  -- a turn of a loop that goes down to k from i
-  pub part_down : (rows : List OrderRow) (i k : ℕ) (d : OrderRow) (found : Option Slot) → k + 1 ≡ i → k < length rows → found ≡ head (part lt p i (drop i rows)) → offer lt p (slot k (get_or rows k d)) found ≡ head (part lt p k (drop k rows))
-  part_down rows i k d found e h inv =
-      ap (offer lt p (slot k (get_or rows k d))) (inv ∙ ap (λ (n : ℕ). head (part lt p n (drop n rows))) (sym e)) ∙ part_more rows k d h
-
-  pub part_end : (rows : List OrderRow) (i : ℕ) (found : Option Slot) → i ≤ 0 → found ≡ head (part lt p i (drop i rows)) → found ≡ head (part lt p 0 rows)
-  part_end rows i found h inv = let e : i ≡ 0 = omega arith in inv ∙ ap (λ (n : ℕ). head (part lt p n (drop n rows))) e

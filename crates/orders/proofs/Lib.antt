@@ -1,6 +1,6 @@
 pub mod Heads
 pub mod Gone
 pub mod Cursor
-pub mod Found
 pub mod Leaving
 pub mod Ordered
+pub mod Onward

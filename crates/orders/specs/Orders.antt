@@ -7,8 +7,8 @@ use Rattle.orders.specs.declared.row.OrderRow.{OrderRow}
 abbrev pub row_of : Order → OrderRow
 row_of o =
     record {
-      number = o.number;
-      place = o.place;
+      number = o.number.number;
+      place = o.place.number;
       product = o.product;
       side = side_code o.side;
       price = o.price.ticks;

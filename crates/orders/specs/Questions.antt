@@ -6,6 +6,9 @@ use Rattle.terms.specs.declared.price.Price.{Price}
 use Rattle.orders.specs.Queue.{Slot, slots, counted, queue, head, higher_first, lower_first}
 use Rattle.orders.specs.Orders.{row_of}
 use Rattle.orders.specs.Rows.{fair, free}
+use Rattle.terms.specs.declared.side.Side.{Side}
+use Rattle.terms.specs.declared.side.Side.TheVariants.{Buy, Sell}
+use Rattle.orders.specs.declared.full.TableFull.{TableFull}
 use Rattle.orders.specs.declared.order.Order.{Order}
 use Rattle.orders.specs.declared.row.OrderRow.{OrderRow}
 
@@ -21,6 +24,11 @@ best_buy product table = best_price 0 higher_first product table
 
 abbrev pub best_sell : ℕ → List OrderRow → Option Price
 best_sell product table = best_price 1 lower_first product table
+
+-- the best price that an order of this side would trade with
+abbrev pub best_facing : Side → ℕ → List OrderRow → Option Price
+best_facing Buy product table = best_sell product table
+best_facing Sell product table = best_buy product table
 
 -- a best buy at or above a best sell
 abbrev pub crosses : Option Price → Option Price → Bool
@@ -45,6 +53,6 @@ abbrev pub order_numbered : ℕ → ℕ → List OrderRow → Option Slot
 order_numbered products number table = head (filter (has_number products number) (slots 0 (counted table)))
 
 -- a place that counts and is free; or none is, and how many count
-abbrev pub FreePlace : ℕ → List OrderRow → Result ℕ ℕ → Type 0
+abbrev pub FreePlace : ℕ → List OrderRow → Result ℕ TableFull → Type 0
 FreePlace products table (Ok i) = (i < length (counted table)) × (stands products (slice_index_or table i free) ≡ false)
-FreePlace products table (Err n) = (n ≡ length (counted table)) × All (λ r. stands products r ≡ true) (counted table)
+FreePlace products table (Err full) = (full.places ≡ length (counted table)) × All (λ r. stands products r ≡ true) (counted table)

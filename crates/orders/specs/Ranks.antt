@@ -1,32 +1,34 @@
--- Price-time priority as an order of two numbers, price and place. Assumes nothing.
-use Rattle.std.specs.Prelude.{◌≡◌, ℕ, ◌<◌, ◌≤◌, Bool, false, ◌&&◌, ◌||◌, ◌⊎◌, ◌==◌, nat_lt}
-use Rattle.std.proofs.Common.{inl, inr, arith}
+-- Price-time priority, from which price a limit reaches. Assumes nothing.
+use Rattle.std.specs.Prelude.{◌≡◌, ℕ, Bool, true, false, not, ◌&&◌, ◌||◌, ◌≢◌, ◌==◌, nat_le, nat_lt}
+use Rattle.std.proofs.Common.{arith, rules, tests}
 use Rattle.std.proofs.lemmas.Bool.Decides.{nat_tests}
+use Rattle.orders.specs.Queue.{higher_first, lower_first}
+use Rattle.orders.specs.declared.row.OrderRow.{OrderRow}
 
-abbrev pub lex : ℕ → ℕ → ℕ → ℕ → Bool
-lex p i q j = nat_lt p q || (p == q && nat_lt i j)
+pub record ByPrice (first : OrderRow → OrderRow → Bool) (reaches : ℕ → ℕ → Bool) : Type 0 where
+  -- a price that the other one, as a limit, does not reach is the better one; at one price the lower place comes first
+  pub ranked : (a b : OrderRow) → first a b ≡ (not (reaches a.price b.price) || (a.price == b.price && nat_lt a.place b.place))
+  -- of two prices one reaches the other, and both do only where they are one
+  pub either : (p q : ℕ) → reaches p q ≡ false → reaches q p ≡ true
+  pub level : (p q : ℕ) → reaches p q ≡ true → reaches q p ≡ true → p ≡ q
+  pub onward : (p q s : ℕ) → reaches p q ≡ true → reaches q s ≡ true → reaches p s ≡ true
 
-lex_false : (p i q j : ℕ) → lex p i q j ≡ false → (q < p) ⊎ ((p ≡ q) × (j ≤ i))
-lex_false p i q j h = grind (arith, nat_tests)
+pub higher_by_price : ByPrice higher_first (λ limit price. nat_le limit price)
+higher_by_price = search (rules, tests)
 
-lex_from : (p i q j : ℕ) → (q < p) ⊎ ((p ≡ q) × (j ≤ i)) → lex p i q j ≡ false
-lex_from p i q j (inl h) = grind (arith, nat_tests)
-lex_from p i q j (inr h) = grind (arith, nat_tests)
+pub lower_by_price : ByPrice lower_first (λ limit price. nat_le price limit)
+lower_by_price = search (rules, tests)
 
-both : (p i q j s k : ℕ) → (q < p) ⊎ ((p ≡ q) × (j ≤ i)) → (s < q) ⊎ ((q ≡ s) × (k ≤ j)) → (s < p) ⊎ ((p ≡ s) × (k ≤ i))
-both p i q j s k (inl x) (inl y) = inl (omega arith)
-both p i q j s k (inl x) (inr y) = inl (omega arith)
-both p i q j s k (inr x) (inl y) = inl (omega arith)
-both p i q j s k (inr x) (inr y) = inr (omega arith, omega arith)
+module _ {first : OrderRow → OrderRow → Bool} {reaches : ℕ → ℕ → Bool} (r : ByPrice first reaches) where
+  pub first_oneway : (a b : OrderRow) → first a b ≡ true → first b a ≡ false
+  first_oneway a b h = grind (arith, nat_tests, r.ranked a b, r.ranked b a, r.either, r.level)
 
-pub lower_chain : (p i q j s k : ℕ) → lex p i q j ≡ false → lex q j s k ≡ false → lex p i s k ≡ false
-lower_chain p i q j s k a b = lex_from p i s k (both p i q j s k (lex_false p i q j a) (lex_false q j s k b))
+  pub first_chain : (a b c : OrderRow) → first a b ≡ false → first b c ≡ false → first a c ≡ false
+  first_chain a b c h k =
+      grind (arith, nat_tests, r.ranked a b, r.ranked b c, r.ranked a c, r.level a.price b.price, r.onward a.price b.price c.price, r.onward b.price c.price a.price)
 
-higher : (p i q j s k : ℕ) → (p < q) ⊎ ((q ≡ p) × (j ≤ i)) → (q < s) ⊎ ((s ≡ q) × (k ≤ j)) → (p < s) ⊎ ((s ≡ p) × (k ≤ i))
-higher p i q j s k (inl x) (inl y) = inl (omega arith)
-higher p i q j s k (inl x) (inr y) = inl (omega arith)
-higher p i q j s k (inr x) (inl y) = inl (omega arith)
-higher p i q j s k (inr x) (inr y) = inr (omega arith, omega arith)
+  pub first_decided : (a b : OrderRow) → (a.place ≢ b.place) → first a b ≡ not (first b a)
+  first_decided a b n = grind (arith, nat_tests, r.ranked a b, r.ranked b a, r.either, r.level)
 
-pub higher_chain : (p i q j s k : ℕ) → lex q i p j ≡ false → lex s j q k ≡ false → lex s i p k ≡ false
-higher_chain p i q j s k a b = lex_from s i p k (higher p i q j s k (lex_false q i p j a) (lex_false s j q k b))
+  pub first_nearer : (a b : OrderRow) (limit : ℕ) → first b a ≡ false → reaches limit b.price ≡ true → reaches limit a.price ≡ true
+  first_nearer a b limit h t = grind (arith, nat_tests, r.ranked b a, r.onward limit b.price a.price)

@@ -1,8 +1,8 @@
 // The order table: resting orders in lent memory, searched by price-time priority.
 #![tactic(auto)]
 
-pub mod checked;
 pub mod close;
+pub mod full;
 pub mod laws;
 pub mod order;
 pub mod questions;

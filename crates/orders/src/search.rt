@@ -1,45 +1,30 @@
 // The first order of a queue, and the next one behind another.
 ghost use Rattle.std.specs.Prelude.{◌≡◌, ℕ, ◌<◌, min, ◌&&◌, length, IfSome, ◌==◌};
 ghost use Rattle.std.specs.Option.{option_map};
-ghost use Rattle.orders.specs.Queue.{before, past, wanted, offer, behind, head, queue, slot, slot_of, most_places};
+ghost use Rattle.orders.specs.Queue.{before, past, wanted, offer, behind, head, queue, slot, slot_of, counted, most_places};
 ghost use Rattle.orders.specs.Rows.{side_code};
 
 use crate::PLACES;
-use crate::order::Entry;
+use crate::order::{Entry, Order};
 use crate::row::OrderRow;
 use crate::side::BookSide;
-use terms::side::Side;
 
 fn ahead<S: BookSide>(a: Entry, b: Entry) -> bool
     ensures { result ≡ before S.BookSide.first (slot_of a) (slot_of b) }
 {
-    S::comes_first(a.order, b.order) | (!S::comes_first(b.order, a.order) & (a.index < b.index))
-}
-
-fn same_side(a: Side, b: Side) -> bool
-    ensures { result ≡ (side_code a == side_code b) }
-{
-    match (a, b) {
-        (Side::Buy, Side::Buy) => true,
-        (Side::Sell, Side::Sell) => true,
-        (Side::Buy, Side::Sell) => false,
-        (Side::Sell, Side::Buy) => false,
-    }
+    S::comes_first(a.order, b.order) || (!S::comes_first(b.order, a.order) && a.index < b.index)
 }
 
 fn is_behind<S: BookSide>(after: Option<Entry>, e: Entry) -> bool
     ensures { result ≡ past S.BookSide.first (option_map slot_of after) (slot_of e) }
 {
-    match after {
-        None => true,
-        Some(cursor) => ahead::<S>(cursor, e),
-    }
+    after.is_none_or(|cursor| ahead::<S>(cursor, e))
 }
 
 fn fits<S: BookSide>(e: Entry, product: u32, after: Option<Entry>) -> bool
     ensures { result ≡ (past S.BookSide.first (option_map slot_of after) (slot_of e) && (side_code e.order.side == S.BookSide.code && e.order.product == product)) }
 {
-    is_behind::<S>(after, e) & (same_side(e.order.side, S::side()) & (e.order.product == product))
+    is_behind::<S>(after, e) && e.order.side == S::side() && e.order.product == product
 }
 
 // The better of what stands at a place and the best so far.
@@ -52,28 +37,24 @@ fn offered<S: BookSide>(
 ) -> Option<Entry>
     ensures { option_map slot_of result ≡ offer (before S.BookSide.first) (wanted S.BookSide.code S.BookSide.first product (option_map slot_of after)) (slot index row) (option_map slot_of best) }
 {
-    let Some(order) = row.order() else {
+    let Ok(order) = Order::try_from(row) else {
         return best;
     };
     let e = Entry { index, order };
-    if !fits::<S>(e, product, after) {
-        return best;
-    }
-    match best {
-        None => Some(e),
-        Some(other) => if ahead::<S>(e, other) {
-            Some(e)
-        } else {
-            Some(other)
-        },
+    if fits::<S>(e, product, after) && best.is_none_or(|other| ahead::<S>(e, other)) {
+        Some(e)
+    } else {
+        best
     }
 }
 
-// How many places of a table count.
-pub(crate) fn span(places: usize) -> usize
-    ensures { result ≡ min most_places places }
+// The places of a table that count.
+pub(crate) fn counted(table: &[OrderRow]) -> &[OrderRow]
+    ensures rows { result.now ≡ counted table.now }
+    ensures len { length result.now ≡ min most_places (length table.now) }
 {
-    if places < PLACES { places } else { PLACES }
+    let places = table.len().min(PLACES);
+    &table[..places]
 }
 
 // The first order of a queue behind a cursor; with none, the first of the whole queue.
@@ -82,8 +63,8 @@ pub fn seek<S: BookSide>(table: &[OrderRow], product: u32, after: Option<Entry>)
     ensures within { IfSome result (λ e. e.index < length table.now) }
 {
     let mut found: Option<Entry> = None;
-    for i in (0..span(table.len())).rev() {
-        found = offered::<S>(table[i], i, product, after, found);
+    for (index, row) in counted(table).iter().enumerate() {
+        found = offered::<S>(*row, index, product, after, found);
     }
     found
 }

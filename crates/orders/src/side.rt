@@ -4,8 +4,7 @@ ghost use Rattle.orders.specs.Orders.{row_of};
 ghost use Rattle.orders.specs.Queue.{higher_first, lower_first};
 ghost use Rattle.orders.specs.Rows.{side_code};
 ghost use Rattle.orders.specs.declared.row.OrderRow.{OrderRow as Row};
-ghost use Rattle.orders.specs.Ranks.{higher_chain, lower_chain};
-ghost use Rattle.std.proofs.Common.{rules};
+ghost use Rattle.orders.specs.Ranks.{ByPrice, higher_by_price, lower_by_price, first_oneway, first_chain, first_decided, first_nearer};
 
 use crate::order::Order;
 use terms::price::Price;
@@ -23,20 +22,26 @@ pub trait BookSide {
     fn side() -> Side
         ensures { side_code result ≡ code };
 
-    fn comes_first(a: Order, b: Order) -> bool
-        ensures { result ≡ first (row_of a) (row_of b) };
-
     fn reached(limit: Price, price: Price) -> bool
         ensures { result ≡ reaches limit.ticks price.ticks };
 
-    ghost oneway: { (a b : Row) → first a b ≡ true → first b a ≡ false };
+    // A price that the other one, as a limit, does not reach is the better one; at one price the earlier order comes first.
+    final fn comes_first(a: Order, b: Order) -> bool
+        ensures { result ≡ first (row_of a) (row_of b) }
+    {
+        !Self::reached(a.price, b.price) || (a.price == b.price && a.place < b.place)
+    }
 
-    ghost chain: { (a b c : Row) → first a b ≡ false → first b c ≡ false → first a c ≡ false };
+    ghost by_price: { ByPrice first reaches };
 
-    ghost decided: { (a b : Row) → (a.place ≢ b.place) → first a b ≡ not (first b a) };
+    ghost oneway: { (a b : Row) → first a b ≡ true → first b a ≡ false } = { first_oneway by_price };
+
+    ghost chain: { (a b c : Row) → first a b ≡ false → first b c ≡ false → first a c ≡ false } = { first_chain by_price };
+
+    ghost decided: { (a b : Row) → (a.place ≢ b.place) → first a b ≡ not (first b a) } = { first_decided by_price };
 
     // a limit that reaches an order reaches every one that stands no further back in price
-    ghost nearer: { (a b : Row) (limit : ℕ) → first b a ≡ false → reaches limit b.price ≡ true → reaches limit a.price ≡ true };
+    ghost nearer: { (a b : Row) (limit : ℕ) → first b a ≡ false → reaches limit b.price ≡ true → reaches limit a.price ≡ true } = { first_nearer by_price };
 }
 
 pub struct Buys;
@@ -50,25 +55,14 @@ impl BookSide for Buys {
 
     ghost reaches = { λ limit price. nat_le limit price };
 
-    ghost oneway = { Prim.search rules };
-
-    ghost chain = { λ a b c. higher_chain a.price a.place b.price b.place c.price c.place };
-
-    ghost decided = { Prim.search rules };
-
-    ghost nearer = { Prim.search rules };
+    ghost by_price = { higher_by_price };
 
     fn side() -> Side {
         Side::Buy
     }
 
-    fn comes_first(a: Order, b: Order) -> bool {
-        let (p, q) = (a.price.ticks(), b.price.ticks());
-        (q < p) | ((q == p) & (a.place < b.place))
-    }
-
     fn reached(limit: Price, price: Price) -> bool {
-        limit.ticks() <= price.ticks()
+        limit <= price
     }
 }
 
@@ -79,24 +73,13 @@ impl BookSide for Sells {
 
     ghost reaches = { λ limit price. nat_le price limit };
 
-    ghost oneway = { Prim.search rules };
-
-    ghost chain = { λ a b c. lower_chain a.price a.place b.price b.place c.price c.place };
-
-    ghost decided = { Prim.search rules };
-
-    ghost nearer = { Prim.search rules };
+    ghost by_price = { lower_by_price };
 
     fn side() -> Side {
         Side::Sell
     }
 
-    fn comes_first(a: Order, b: Order) -> bool {
-        let (p, q) = (a.price.ticks(), b.price.ticks());
-        (p < q) | ((p == q) & (a.place < b.place))
-    }
-
     fn reached(limit: Price, price: Price) -> bool {
-        price.ticks() <= limit.ticks()
+        price <= limit
     }
 }
