@@ -90,6 +90,10 @@ abbrev pub Starts : {A : Type 0} → (List ℕ → Option A) → Fault → List 
 Starts reads fault text (Ok p) = (reads (first_word text) ≡ Some p.0) × (p.1.now ≡ after_word text)
 Starts reads fault text (Err f) = (reads (first_word text) ≡ None) × (f ≡ fault)
 
+abbrev pub StartsBy : {A : Type 0} → (List ℕ → Option A → Type 0) → Fault → List ℕ → Result (A × Bor (List ℕ)) Fault → Type 0
+StartsBy Reads fault text (Ok p) = Reads (first_word text) (Some p.0) × (p.1.now ≡ after_word text)
+StartsBy Reads fault text (Err f) = Reads (first_word text) None × (f ≡ fault)
+
 abbrev pub verb_of : List ℕ → Option Verb
 verb_of word =
     cond (bytes_eq word (codes "product")) (Some ProductWord)

@@ -1,36 +1,46 @@
 // A line of text to the command that it writes.
 ghost use Rattle.std.specs.Prelude.{◌≡◌};
-ghost use Rattle.console.specs.Commands.{Starts, Dated, ends, side_of, limit_of, span_of, product_line, order_line, verb_of, command_line};
-ghost use Rattle.console.specs.declared.command.Fault.TheVariants.{Number as number_fault, Side as side_fault, Limit as limit_fault, Duration as duration_fault};
-ghost use Rattle.reading.specs.Numerals.{numeral};
+ghost use Rattle.console.specs.Commands.{StartsBy, Dated, ends, side_of, limit_of, product_line, order_line, command_line};
+ghost use Rattle.std.specs.Fn.{FnOnceReturnsAt};
 
 use crate::command::{Command, Fault, Order, Span, Verb};
 use reading::number::number;
-use reading::words::{before_comment, says, split_word};
+use reading::words::{before_comment, split_word};
 use terms::duration::Duration;
 use terms::side::Side;
 
-fn number_from(text: &[u8]) -> Result<(u32, &[u8]), Fault>
-    ensures { Starts numeral number_fault text.now result }
+// The first word as what it stands for, and what stands after it; or the line is at fault.
+fn word_as<T, F: FnOnce(&[u8]) -> Option<T>>(
+    text: &[u8],
+    read: F,
+    fault: Fault,
+) -> Result<(T, &[u8]), Fault>
+    requires { F.IsAlwaysCallable read }
+    ensures { StartsBy (FnOnceReturnsAt F.FnOnce read) fault text.now result }
 {
     let (word, rest) = split_word(text);
-    match number(word) {
-        Some(value) => Ok((value, rest)),
-        None => Err(Fault::Number),
+    let value = read(word).ok_or(fault)?;
+    Ok((value, rest))
+}
+
+fn side_of(word: &[u8]) -> Option<Side>
+    ensures { result ≡ side_of word.now }
+{
+    match word {
+        b"buy" => Some(Side::Buy),
+        b"sell" => Some(Side::Sell),
+        _ => None,
     }
 }
 
-fn side_from(text: &[u8]) -> Result<(Side, &[u8]), Fault>
-    ensures { Starts side_of side_fault text.now result }
+// A price, or none for a market order.
+fn limit_of(word: &[u8]) -> Option<Option<u32>>
+    ensures { result ≡ limit_of word.now }
 {
-    let (word, rest) = split_word(text);
-    if says(word, b"buy") {
-        return Ok((Side::Buy, rest));
+    match word {
+        b"market" => Some(None),
+        _ => Some(Some(number(word)?)),
     }
-    if says(word, b"sell") {
-        return Ok((Side::Sell, rest));
-    }
-    Err(Fault::Side)
 }
 
 fn ends(text: &[u8], command: Command) -> Result<Command, Fault>
@@ -47,9 +57,9 @@ fn ends(text: &[u8], command: Command) -> Result<Command, Fault>
 fn product_line(text: &[u8]) -> Result<Command, Fault>
     ensures { result ≡ product_line text.now }
 {
-    let (sweep, text) = number_from(text)?;
-    let (daily, text) = number_from(text)?;
-    let (reference, text) = number_from(text)?;
+    let (sweep, text) = word_as(text, number, Fault::Number)?;
+    let (daily, text) = word_as(text, number, Fault::Number)?;
+    let (reference, text) = word_as(text, number, Fault::Number)?;
     ends(
         text,
         Command::Product {
@@ -58,47 +68,6 @@ fn product_line(text: &[u8]) -> Result<Command, Fault>
             reference,
         },
     )
-}
-
-fn limit_from(text: &[u8]) -> Result<(Option<u32>, &[u8]), Fault>
-    ensures { Starts limit_of limit_fault text.now result }
-{
-    let (word, rest) = split_word(text);
-    if says(word, b"market") {
-        return Ok((None, rest));
-    }
-    match number(word) {
-        Some(price) => Ok((Some(price), rest)),
-        None => Err(Fault::Limit),
-    }
-}
-
-fn span_of(word: &[u8]) -> Option<Span>
-    ensures { result ≡ span_of word.now }
-{
-    if says(word, b"now") {
-        Some(Span::Now)
-    } else if says(word, b"session") {
-        Some(Span::Session)
-    } else if says(word, b"day") {
-        Some(Span::Day)
-    } else if says(word, b"until") {
-        Some(Span::Until)
-    } else if says(word, b"until-cancelled") {
-        Some(Span::UntilCancelled)
-    } else {
-        None
-    }
-}
-
-fn span_from(text: &[u8]) -> Result<(Span, &[u8]), Fault>
-    ensures { Starts span_of duration_fault text.now result }
-{
-    let (word, rest) = split_word(text);
-    match span_of(word) {
-        Some(span) => Ok((span, rest)),
-        None => Err(Fault::Duration),
-    }
 }
 
 // A duration until a date goes on with the date.
@@ -111,7 +80,7 @@ fn dated(span: Span, text: &[u8]) -> Result<(Duration, &[u8]), Fault>
         Span::Day => Ok((Duration::Day, text)),
         Span::UntilCancelled => Ok((Duration::UntilCancelled, text)),
         Span::Until => {
-            let (date, text) = number_from(text)?;
+            let (date, text) = word_as(text, number, Fault::Number)?;
             Ok((Duration::Until(date), text))
         }
     }
@@ -120,11 +89,11 @@ fn dated(span: Span, text: &[u8]) -> Result<(Duration, &[u8]), Fault>
 fn order_line(text: &[u8]) -> Result<Command, Fault>
     ensures { result ≡ order_line text.now }
 {
-    let (side, text) = side_from(text)?;
-    let (quantity, text) = number_from(text)?;
-    let (limit, text) = limit_from(text)?;
-    let (participant, text) = number_from(text)?;
-    let (span, text) = span_from(text)?;
+    let (side, text) = word_as(text, side_of, Fault::Side)?;
+    let (quantity, text) = word_as(text, number, Fault::Number)?;
+    let (limit, text) = word_as(text, limit_of, Fault::Limit)?;
+    let (participant, text) = word_as(text, number, Fault::Number)?;
+    let (span, text) = word_as(text, |word| Span::try_from(word).ok(), Fault::Duration)?;
     let (duration, text) = dated(span, text)?;
     let order = Order {
         side,
@@ -136,26 +105,6 @@ fn order_line(text: &[u8]) -> Result<Command, Fault>
     ends(text, Command::Enter(order))
 }
 
-fn verb_of(word: &[u8]) -> Option<Verb>
-    ensures { result ≡ verb_of word.now }
-{
-    if says(word, b"product") {
-        Some(Verb::Product)
-    } else if says(word, b"enter") {
-        Some(Verb::Enter)
-    } else if says(word, b"top") {
-        Some(Verb::Top)
-    } else if says(word, b"range") {
-        Some(Verb::Range)
-    } else if says(word, b"tape") {
-        Some(Verb::Tape)
-    } else if says(word, b"hex") {
-        Some(Verb::Hex)
-    } else {
-        None
-    }
-}
-
 // The command of a line; none for one that is blank but for a comment.
 pub fn parse_line(line: &[u8]) -> Result<Option<Command>, Fault>
     ensures { result ≡ command_line line.now }
@@ -164,10 +113,7 @@ pub fn parse_line(line: &[u8]) -> Result<Option<Command>, Fault>
     if word.is_empty() {
         return Ok(None);
     }
-    let Some(verb) = verb_of(word) else {
-        return Err(Fault::Unknown);
-    };
-    let command = match verb {
+    let command = match Verb::try_from(word)? {
         Verb::Product => product_line(text)?,
         Verb::Enter => order_line(text)?,
         Verb::Top => ends(text, Command::Top)?,
