@@ -1,7 +1,10 @@
 // A line of text to the command that it writes.
 ghost use Rattle.std.specs.Prelude.{◌≡◌};
-ghost use Rattle.console.specs.Commands.{StartsBy, Dated, ends, side_of, limit_of, product_line, order_line, command_line};
 ghost use Rattle.std.specs.Fn.{FnOnceReturnsAt};
+ghost use Rattle.std.specs.Option.{ok_or};
+ghost use Rattle.console.specs.Commands.{Starts, Dated, ends, side_of, limit_of, product_line, order_line, command_line};
+ghost use Rattle.console.specs.declared.command.Fault.TheVariants.{Number as number_fault, Side as side_fault, Limit as limit_fault};
+ghost use Rattle.reading.specs.Numerals.{numeral};
 
 use crate::command::{Command, Fault, Order, Span, Verb};
 use reading::number::number;
@@ -10,36 +13,40 @@ use terms::duration::Duration;
 use terms::side::Side;
 
 // The first word as what it stands for, and what stands after it; or the line is at fault.
-fn word_as<T, F: FnOnce(&[u8]) -> Option<T>>(
+fn word_as<T, F: FnOnce(&[u8]) -> Result<T, Fault>>(
     text: &[u8],
     read: F,
-    fault: Fault,
 ) -> Result<(T, &[u8]), Fault>
     requires { F.IsAlwaysCallable read }
-    ensures { StartsBy (FnOnceReturnsAt F.FnOnce read) fault text.now result }
+    ensures { Starts (FnOnceReturnsAt F.FnOnce read) text.now result }
 {
     let (word, rest) = split_word(text);
-    let value = read(word).ok_or(fault)?;
-    Ok((value, rest))
+    Ok((read(word)?, rest))
 }
 
-fn side_of(word: &[u8]) -> Option<Side>
-    ensures { result ≡ side_of word.now }
+fn number_of(word: &[u8]) -> Result<u32, Fault>
+    ensures { result ≡ ok_or (numeral word.now) number_fault }
+{
+    number(word).ok_or(Fault::Number)
+}
+
+fn side_of(word: &[u8]) -> Result<Side, Fault>
+    ensures { result ≡ ok_or (side_of word.now) side_fault }
 {
     match word {
-        b"buy" => Some(Side::Buy),
-        b"sell" => Some(Side::Sell),
-        _ => None,
+        b"buy" => Ok(Side::Buy),
+        b"sell" => Ok(Side::Sell),
+        _ => Err(Fault::Side),
     }
 }
 
 // A price, or none for a market order.
-fn limit_of(word: &[u8]) -> Option<Option<u32>>
-    ensures { result ≡ limit_of word.now }
+fn limit_of(word: &[u8]) -> Result<Option<u32>, Fault>
+    ensures { result ≡ ok_or (limit_of word.now) limit_fault }
 {
     match word {
-        b"market" => Some(None),
-        _ => Some(Some(number(word)?)),
+        b"market" => Ok(None),
+        _ => number(word).map(Some).ok_or(Fault::Limit),
     }
 }
 
@@ -57,9 +64,9 @@ fn ends(text: &[u8], command: Command) -> Result<Command, Fault>
 fn product_line(text: &[u8]) -> Result<Command, Fault>
     ensures { result ≡ product_line text.now }
 {
-    let (sweep, text) = word_as(text, number, Fault::Number)?;
-    let (daily, text) = word_as(text, number, Fault::Number)?;
-    let (reference, text) = word_as(text, number, Fault::Number)?;
+    let (sweep, text) = word_as(text, number_of)?;
+    let (daily, text) = word_as(text, number_of)?;
+    let (reference, text) = word_as(text, number_of)?;
     ends(
         text,
         Command::Product {
@@ -80,7 +87,7 @@ fn dated(span: Span, text: &[u8]) -> Result<(Duration, &[u8]), Fault>
         Span::Day => Ok((Duration::Day, text)),
         Span::UntilCancelled => Ok((Duration::UntilCancelled, text)),
         Span::Until => {
-            let (date, text) = word_as(text, number, Fault::Number)?;
+            let (date, text) = word_as(text, number_of)?;
             Ok((Duration::Until(date), text))
         }
     }
@@ -89,11 +96,11 @@ fn dated(span: Span, text: &[u8]) -> Result<(Duration, &[u8]), Fault>
 fn order_line(text: &[u8]) -> Result<Command, Fault>
     ensures { result ≡ order_line text.now }
 {
-    let (side, text) = word_as(text, side_of, Fault::Side)?;
-    let (quantity, text) = word_as(text, number, Fault::Number)?;
-    let (limit, text) = word_as(text, limit_of, Fault::Limit)?;
-    let (participant, text) = word_as(text, number, Fault::Number)?;
-    let (span, text) = word_as(text, |word| Span::try_from(word).ok(), Fault::Duration)?;
+    let (side, text) = word_as(text, side_of)?;
+    let (quantity, text) = word_as(text, number_of)?;
+    let (limit, text) = word_as(text, limit_of)?;
+    let (participant, text) = word_as(text, number_of)?;
+    let (span, text) = word_as(text, |word| Span::try_from(word))?;
     let (duration, text) = dated(span, text)?;
     let order = Order {
         side,
@@ -114,12 +121,12 @@ pub fn parse_line(line: &[u8]) -> Result<Option<Command>, Fault>
         return Ok(None);
     }
     let command = match Verb::try_from(word)? {
-        Verb::Product => product_line(text)?,
-        Verb::Enter => order_line(text)?,
-        Verb::Top => ends(text, Command::Top)?,
-        Verb::Range => ends(text, Command::Range)?,
-        Verb::Tape => ends(text, Command::Tape)?,
-        Verb::Hex => ends(text, Command::Hex)?,
+        Verb::Product => product_line(text),
+        Verb::Enter => order_line(text),
+        Verb::Top => ends(text, Command::Top),
+        Verb::Range => ends(text, Command::Range),
+        Verb::Tape => ends(text, Command::Tape),
+        Verb::Hex => ends(text, Command::Hex),
     };
-    Ok(Some(command))
+    command.map(Some)
 }
