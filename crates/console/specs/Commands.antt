@@ -86,9 +86,9 @@ abbrev pub ends : List ℕ → Command → Result Command Fault
 ends text command = cond (length (first_word text) == 0) (Ok command) (Err Surplus)
 
 -- a part of a line is read, and the rest handed on; or the line is at fault
-abbrev pub Starts : {A : Type 0} → (List ℕ → Option A) → Fault → List ℕ → Result (A × Bor (List ℕ)) Fault → Type 0
-Starts reads fault text (Ok p) = (reads (first_word text) ≡ Some p.0) × (p.1.now ≡ after_word text)
-Starts reads fault text (Err f) = (reads (first_word text) ≡ None) × (f ≡ fault)
+abbrev pub Starts : {A : Type 0} → (List ℕ → Result A Fault → Type 0) → List ℕ → Result (A × Bor (List ℕ)) Fault → Type 0
+Starts Reads text (Ok p) = Reads (first_word text) (Ok p.0) × (p.1.now ≡ after_word text)
+Starts Reads text (Err fault) = Reads (first_word text) (Err fault)
 
 abbrev pub verb_of : List ℕ → Option Verb
 verb_of word =

@@ -1,36 +1,53 @@
 // A line of text to the command that it writes.
 ghost use Rattle.std.specs.Prelude.{◌≡◌};
-ghost use Rattle.console.specs.Commands.{Starts, Dated, ends, side_of, limit_of, span_of, product_line, order_line, verb_of, command_line};
-ghost use Rattle.console.specs.declared.command.Fault.TheVariants.{Number as number_fault, Side as side_fault, Limit as limit_fault, Duration as duration_fault};
+ghost use Rattle.std.specs.Fn.{FnOnceReturnsAt};
+ghost use Rattle.std.specs.Option.{ok_or};
+ghost use Rattle.console.specs.Commands.{Starts, Dated, ends, side_of, limit_of, product_line, order_line, command_line};
+ghost use Rattle.console.specs.declared.command.Fault.TheVariants.{Number as number_fault, Side as side_fault, Limit as limit_fault};
 ghost use Rattle.reading.specs.Numerals.{numeral};
 
 use crate::command::{Command, Fault, Order, Span, Verb};
 use reading::number::number;
-use reading::words::{before_comment, says, split_word};
+use reading::words::{before_comment, split_word};
 use terms::duration::Duration;
 use terms::side::Side;
 
-fn number_from(text: &[u8]) -> Result<(u32, &[u8]), Fault>
-    ensures { Starts numeral number_fault text.now result }
+// The first word as what it stands for, and what stands after it; or the line is at fault.
+fn word_as<T, F: FnOnce(&[u8]) -> Result<T, Fault>>(
+    text: &[u8],
+    read: F,
+) -> Result<(T, &[u8]), Fault>
+    requires { F.IsAlwaysCallable read }
+    ensures { Starts (FnOnceReturnsAt F.FnOnce read) text.now result }
 {
     let (word, rest) = split_word(text);
-    match number(word) {
-        Some(value) => Ok((value, rest)),
-        None => Err(Fault::Number),
+    Ok((read(word)?, rest))
+}
+
+fn number_of(word: &[u8]) -> Result<u32, Fault>
+    ensures { result ≡ ok_or (numeral word.now) number_fault }
+{
+    number(word).ok_or(Fault::Number)
+}
+
+fn side_of(word: &[u8]) -> Result<Side, Fault>
+    ensures { result ≡ ok_or (side_of word.now) side_fault }
+{
+    match word {
+        b"buy" => Ok(Side::Buy),
+        b"sell" => Ok(Side::Sell),
+        _ => Err(Fault::Side),
     }
 }
 
-fn side_from(text: &[u8]) -> Result<(Side, &[u8]), Fault>
-    ensures { Starts side_of side_fault text.now result }
+// A price, or none for a market order.
+fn limit_of(word: &[u8]) -> Result<Option<u32>, Fault>
+    ensures { result ≡ ok_or (limit_of word.now) limit_fault }
 {
-    let (word, rest) = split_word(text);
-    if says(word, b"buy") {
-        return Ok((Side::Buy, rest));
+    match word {
+        b"market" => Ok(None),
+        _ => number(word).map(Some).ok_or(Fault::Limit),
     }
-    if says(word, b"sell") {
-        return Ok((Side::Sell, rest));
-    }
-    Err(Fault::Side)
 }
 
 fn ends(text: &[u8], command: Command) -> Result<Command, Fault>
@@ -47,9 +64,9 @@ fn ends(text: &[u8], command: Command) -> Result<Command, Fault>
 fn product_line(text: &[u8]) -> Result<Command, Fault>
     ensures { result ≡ product_line text.now }
 {
-    let (sweep, text) = number_from(text)?;
-    let (daily, text) = number_from(text)?;
-    let (reference, text) = number_from(text)?;
+    let (sweep, text) = word_as(text, number_of)?;
+    let (daily, text) = word_as(text, number_of)?;
+    let (reference, text) = word_as(text, number_of)?;
     ends(
         text,
         Command::Product {
@@ -58,47 +75,6 @@ fn product_line(text: &[u8]) -> Result<Command, Fault>
             reference,
         },
     )
-}
-
-fn limit_from(text: &[u8]) -> Result<(Option<u32>, &[u8]), Fault>
-    ensures { Starts limit_of limit_fault text.now result }
-{
-    let (word, rest) = split_word(text);
-    if says(word, b"market") {
-        return Ok((None, rest));
-    }
-    match number(word) {
-        Some(price) => Ok((Some(price), rest)),
-        None => Err(Fault::Limit),
-    }
-}
-
-fn span_of(word: &[u8]) -> Option<Span>
-    ensures { result ≡ span_of word.now }
-{
-    if says(word, b"now") {
-        Some(Span::Now)
-    } else if says(word, b"session") {
-        Some(Span::Session)
-    } else if says(word, b"day") {
-        Some(Span::Day)
-    } else if says(word, b"until") {
-        Some(Span::Until)
-    } else if says(word, b"until-cancelled") {
-        Some(Span::UntilCancelled)
-    } else {
-        None
-    }
-}
-
-fn span_from(text: &[u8]) -> Result<(Span, &[u8]), Fault>
-    ensures { Starts span_of duration_fault text.now result }
-{
-    let (word, rest) = split_word(text);
-    match span_of(word) {
-        Some(span) => Ok((span, rest)),
-        None => Err(Fault::Duration),
-    }
 }
 
 // A duration until a date goes on with the date.
@@ -111,7 +87,7 @@ fn dated(span: Span, text: &[u8]) -> Result<(Duration, &[u8]), Fault>
         Span::Day => Ok((Duration::Day, text)),
         Span::UntilCancelled => Ok((Duration::UntilCancelled, text)),
         Span::Until => {
-            let (date, text) = number_from(text)?;
+            let (date, text) = word_as(text, number_of)?;
             Ok((Duration::Until(date), text))
         }
     }
@@ -120,11 +96,11 @@ fn dated(span: Span, text: &[u8]) -> Result<(Duration, &[u8]), Fault>
 fn order_line(text: &[u8]) -> Result<Command, Fault>
     ensures { result ≡ order_line text.now }
 {
-    let (side, text) = side_from(text)?;
-    let (quantity, text) = number_from(text)?;
-    let (limit, text) = limit_from(text)?;
-    let (participant, text) = number_from(text)?;
-    let (span, text) = span_from(text)?;
+    let (side, text) = word_as(text, side_of)?;
+    let (quantity, text) = word_as(text, number_of)?;
+    let (limit, text) = word_as(text, limit_of)?;
+    let (participant, text) = word_as(text, number_of)?;
+    let (span, text) = word_as(text, |word| Span::try_from(word))?;
     let (duration, text) = dated(span, text)?;
     let order = Order {
         side,
@@ -136,26 +112,6 @@ fn order_line(text: &[u8]) -> Result<Command, Fault>
     ends(text, Command::Enter(order))
 }
 
-fn verb_of(word: &[u8]) -> Option<Verb>
-    ensures { result ≡ verb_of word.now }
-{
-    if says(word, b"product") {
-        Some(Verb::Product)
-    } else if says(word, b"enter") {
-        Some(Verb::Enter)
-    } else if says(word, b"top") {
-        Some(Verb::Top)
-    } else if says(word, b"range") {
-        Some(Verb::Range)
-    } else if says(word, b"tape") {
-        Some(Verb::Tape)
-    } else if says(word, b"hex") {
-        Some(Verb::Hex)
-    } else {
-        None
-    }
-}
-
 // The command of a line; none for one that is blank but for a comment.
 pub fn parse_line(line: &[u8]) -> Result<Option<Command>, Fault>
     ensures { result ≡ command_line line.now }
@@ -164,16 +120,13 @@ pub fn parse_line(line: &[u8]) -> Result<Option<Command>, Fault>
     if word.is_empty() {
         return Ok(None);
     }
-    let Some(verb) = verb_of(word) else {
-        return Err(Fault::Unknown);
+    let command = match Verb::try_from(word)? {
+        Verb::Product => product_line(text),
+        Verb::Enter => order_line(text),
+        Verb::Top => ends(text, Command::Top),
+        Verb::Range => ends(text, Command::Range),
+        Verb::Tape => ends(text, Command::Tape),
+        Verb::Hex => ends(text, Command::Hex),
     };
-    let command = match verb {
-        Verb::Product => product_line(text)?,
-        Verb::Enter => order_line(text)?,
-        Verb::Top => ends(text, Command::Top)?,
-        Verb::Range => ends(text, Command::Range)?,
-        Verb::Tape => ends(text, Command::Tape)?,
-        Verb::Hex => ends(text, Command::Hex)?,
-    };
-    Ok(Some(command))
+    command.map(Some)
 }

@@ -3,7 +3,7 @@
 
 mod show;
 
-use crate::show::{Deal, Hex, Maybe, Mistake, Refused};
+use crate::show::{Deal, Hex, Maybe};
 use book::outcome::Receipt;
 use byte_tape::ByteTape;
 use byte_tape::codec::encode;
@@ -23,7 +23,7 @@ const PLACES: usize = 1_024;
 const TAPE_BYTES: usize = 48 * 1_024;
 
 fn refuse(rt: &HostRuntime, refusal: Refusal) -> io::Result<()> {
-    println!(rt; "{}", Refused(refusal))
+    println!(rt; "refused {refusal}")
 }
 
 // The trades after so many, each on a line.
@@ -94,7 +94,7 @@ fn carry_out(
             Err(refusal) => refuse(rt, refusal),
         },
         Command::Range => match desk.range() {
-            Ok(range) => println!(rt; "range {} {}", range.low.ticks(), range.high.ticks()),
+            Ok(range) => println!(rt; "range {} {}", range.low, range.high),
             Err(refusal) => refuse(rt, refusal),
         },
         Command::Tape => {
@@ -120,7 +120,7 @@ fn main(rt: HostRuntime) -> io::Result<()> {
         match parse_line(&line) {
             Ok(Some(command)) => carry_out(&rt, &mut desk, &mut table, &mut tape, command)?,
             Ok(None) => {}
-            Err(fault) => println!(rt; "error line {number}: {}", Mistake(fault))?,
+            Err(fault) => println!(rt; "error line {number}: {fault}")?,
         }
     }
     Ok(())

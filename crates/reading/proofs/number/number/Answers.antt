@@ -1,30 +1,12 @@
-use Rattle.std.proofs.Common.{◌≡◌, ◌+◌, take, Some, sym, ap, ◌∙◌, arith, rules}
-use Rattle.std.proofs.lemmas.List.{take_all}
-use Rattle.std.proofs.lemmas.List.Sums.{fold_more}
-use Rattle.reading.specs.Numerals.{digit_more}
-use Rattle.reading.proofs.Digits.{digits_more, none_undigit, none_large, some_number}
+use Rattle.std.proofs.Common.{◌≡◌, rules}
+use Rattle.reading.proofs.Digits.{parsed, digits_utf8}
 use Rattle.reading.proofs.number.number.Goals as goal
 
-pub returns-then-not-is_ascii_digit : goal.returns-then-not-is_ascii_digit
-returns-then-not-is_ascii_digit c = sym (none_undigit c.args.word.now c.loop-digit.digit-index (search rules) (search rules))
-
-pub returns-then-value-from : goal.returns-then-value-from
-returns-then-value-from c =
-    let word = c.args.word.now in
-    let more = fold_more digit_more 0 word c.loop-digit.digit-index 0 (search rules) in
-    sym (none_large word (c.loop-digit.digit-index + 1) (omega (arith, more, c.loop-digit.invariant.1)))
-
-pub loop-digit-preserved : goal.loop-digit-preserved
-loop-digit-preserved c =
-    let word = c.args.word.now in
-    let i = c.loop-digit.digit-index in
-    let more = fold_more digit_more 0 word i 0 (search rules) in
-    (digits_more word i (search rules) c.loop-digit.invariant.0 (search rules), omega (arith, more, c.loop-digit.invariant.1), omega arith)
+pub returns-in_err-ok : goal.returns-in_err-ok
+returns-in_err-ok c = let utf8 = digits_utf8 c.args.word.now (search rules) in search rules
 
 pub returns : goal.returns
 returns c =
-    let word = c.args.word.now in
-    let whole : take c.loop-digit.digit-index word ≡ word = take_all _ word (search rules) in
-    let digits = rw whole at c.loop-digit.invariant.0 in
-    let value = rw whole at c.loop-digit.invariant.1 in
-    ap Some value ∙ sym (some_number word (search rules) digits (omega (arith, value, c.loop-digit.invariant.2)))
+    let same : c.in_ok-ok.field-0.now ≡ c.args.word.now = search rules in
+    let read = parsed c.args.word.now _ (search rules) (rw same at c.parse.ensures.value.0) in
+    search rules
