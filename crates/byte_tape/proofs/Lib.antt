@@ -1,2 +1,3 @@
 mod Fours
 mod Places
+mod Marks

@@ -23,9 +23,9 @@ invariant_of-self c =
     let tape = c.args.self.now in
     let rows = tape.rows.now in
     let i = c.args.n - 1 in
-    let row = with_mark c.number.result (place tape i) in
+    let row = with_mark c.into.result (place tape i) in
     let lt : i < length rows = omega arith in
-    let is : row ≡ marked c.args.mark (place tape i) = ap (λ (m : ℕ). with_mark m (place tape i)) c.number.ensures.value in
+    let is : row ≡ marked c.args.mark (place tape i) = ap (λ (m : ℕ). with_mark m (place tape i)) c.into.ensures.0 in
     let at = here rows i row lt in
     record {
       within = simp length-set (omega arith);
@@ -39,9 +39,9 @@ returns c =
     let tape = c.args.self.now in
     let rows = tape.rows.now in
     let i = c.args.n - 1 in
-    let row = with_mark c.number.result (place tape i) in
+    let row = with_mark c.into.result (place tape i) in
     let lt : i < length rows = omega arith in
-    let is : row ≡ marked c.args.mark (place tape i) = ap (λ (m : ℕ). with_mark m (place tape i)) c.number.ensures.value in
+    let is : row ≡ marked c.args.mark (place tape i) = ap (λ (m : ℕ). with_mark m (place tape i)) c.into.ensures.0 in
     let old = record_placed (place tape) tape.used c.args.n c.if-n-lt1.false c.if-n-self.false in
     record {
       answer = record {

@@ -35,9 +35,9 @@ pub returns : goal.returns
 unfolding fair
 returns c =
     let row = c.args.self in
-    let price = price_in row.price c.in_ok-price.price c.new.result c.new.ensures c.in_ok-price.ensures.value in
-    let quantity = quantity_in row.quantity c.in_ok-quantity.quantity c.new-2.result c.new-2.ensures c.in_ok-quantity.ensures.value in
-    let buyer = participant_in row.buyer c.in_ok-buyer.buyer c.new-3.result c.new-3.ensures c.in_ok-buyer.ensures.value in
-    let seller = participant_in row.seller c.in_ok-seller.seller c.new-4.result c.new-4.ensures c.in_ok-seller.ensures.value in
-    let established = price_in row.established c.in_ok-established.established c.new-5.result c.new-5.ensures c.in_ok-established.ensures.value in
+    let price = price_in row.price c.in_ok-price.price c.try_from.result c.try_from.ensures c.in_ok-price.ensures.value in
+    let quantity = quantity_in row.quantity c.in_ok-quantity.quantity c.try_from-2.result c.try_from-2.ensures c.in_ok-quantity.ensures.value in
+    let buyer = participant_in row.buyer c.in_ok-buyer.buyer c.try_from-3.result c.try_from-3.ensures c.in_ok-buyer.ensures.value in
+    let seller = participant_in row.seller c.in_ok-seller.seller c.try_from-4.result c.try_from-4.ensures c.in_ok-seller.ensures.value in
+    let established = price_in row.established c.in_ok-established.established c.try_from-5.result c.try_from-5.ensures c.in_ok-established.ensures.value in
     search rules
