@@ -9,11 +9,11 @@ pub fn last_of_day<T: Tape>(tape: &T, product: u32, day: u32) -> Option<LastTrad
     ensures value { TellsLast product day (T.Tape.records tape.now) result }
     ensures last { IsLast product day (T.Tape.records tape.now) result }
 {
-    for i in (0..tape.count()).rev() {
-        let trade = known(tape, i + 1);
+    for number in (1..=tape.count()).rev() {
+        let trade = known(tape, number);
         if trade.product == product && trade.day == day {
             return Some(LastTrade {
-                number: i + 1,
+                number,
                 price: trade.price,
             });
         }

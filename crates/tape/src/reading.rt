@@ -28,8 +28,5 @@ pub(crate) fn known<T: Tape>(tape: &T, n: u32) -> Trade
     requires { on_tape (T.Tape.records tape.now) n ≡ true }
     ensures { Found (T.Tape.records tape.now) n result }
 {
-    match tape.read(n) {
-        Ok(trade) => trade,
-        Err(_) => unreachable(),
-    }
+    trade_at(tape, n).unwrap()
 }

@@ -24,8 +24,8 @@ impl Sums {
         let since = time.saturating_sub(Sums::WINDOW_SECONDS);
         let mut turnover = 0;
         let mut volume = 0;
-        for i in (0..tape.count()).rev() {
-            let trade = known(tape, i + 1);
+        for number in (1..=tape.count()).rev() {
+            let trade = known(tape, number);
             if trade.time < since {
                 return Sums { turnover, volume };
             }
