@@ -1,3 +1,2 @@
 mod Fours
 mod Places
-mod Marks

@@ -28,7 +28,7 @@ pub struct LentTape<P: Places> {
 
 impl<P: Places> LentTape<P> {
     ghost use Rattle.std.specs.Prelude.{◌≡◌, min, []};
-    ghost use Rattle.lent_tape.specs.Held.{held, free};
+    ghost use Rattle.lent_tape.specs.Held.{held, free, IsPlace};
     ghost use Rattle.tape.specs.Tapes.{latest};
 
     // An empty tape over lent memory.
@@ -41,16 +41,28 @@ impl<P: Places> LentTape<P> {
     }
 
     // The time of the last record; 0 where there is none.
+    #[tactic(auto, using(tape::proofs::Memory::latest_placed))]
     fn last(&self) -> u32
         ensures { result ≡ latest (held self.now) }
     {
         if self.used == 0 {
             return 0;
         }
-        match self.places.get(self.used as usize - 1) {
-            Some(record) => record.time,
-            None => 0,
+        self.places.get(self.used as usize - 1).unwrap().time
+    }
+
+    // The place of a record, by its number.
+    #[tactic(auto, using(tape::proofs::Calls::off_placed, tape::proofs::Memory::length_placed))]
+    fn place(&self, n: u32) -> Result<usize, NoRecord>
+        ensures { IsPlace self.now n result }
+    {
+        if n < 1 || n > self.used {
+            return Err(NoRecord {
+                number: n,
+                count: self.used,
+            });
         }
+        Ok(n as usize - 1)
     }
 }
 
@@ -71,6 +83,7 @@ impl<P: Places> Tape for LentTape<P> {
 
     ghost rising = { held_rising };
 
+    #[tactic(auto, using(tape::proofs::Memory::length_placed))]
     fn count(&self) -> u32 {
         self.used
     }
@@ -80,17 +93,9 @@ impl<P: Places> Tape for LentTape<P> {
     }
 
     fn read(&self, n: u32) -> Result<Trade, NoRecord> {
-        let fault = NoRecord {
-            number: n,
-            count: self.used,
-        };
-        if n < 1 || n > self.used {
-            return Err(fault);
-        }
-        let Some(record) = self.places.get(n as usize - 1) else {
-            return Err(fault);
-        };
-        record.trade().ok_or(fault)
+        let place = self.place(n)?;
+        let row = self.places.get(place).unwrap();
+        Ok(Trade::try_from(row).unwrap())
     }
 
     fn add(&mut self, trade: Trade) -> Result<(), AddFault> {
@@ -101,28 +106,19 @@ impl<P: Places> Tape for LentTape<P> {
         if trade.time < last {
             return Err(AddFault::TimeFell(last));
         }
-        self.places.set(self.used as usize, trade.row());
+        self.places.set(self.used as usize, trade.into());
         self.used += 1;
         Ok(())
     }
 
     fn mark(&mut self, n: u32, mark: Mark) -> Result<(), NoRecord> {
-        let fault = NoRecord {
-            number: n,
-            count: self.used,
-        };
-        if n < 1 || n > self.used {
-            return Err(fault);
-        }
-        let place = n as usize - 1;
-        let Some(record) = self.places.get(place) else {
-            return Err(fault);
-        };
+        let place = self.place(n)?;
+        let row = self.places.get(place).unwrap();
         self.places.set(
             place,
             TradeRow {
                 mark: mark.into(),
-                ..record
+                ..row
             },
         );
         Ok(())
