@@ -1,9 +1,9 @@
 -- Records that lie at places in memory: which bytes they depend on. Assumes nothing.
-use Rattle.std.proofs.Common.{◌≡◌, ℕ, ◌+◌, ◌*◌, ◌<◌, ◌≤◌, ◌≢◌, List, length, get_or, set, ⊎_elim, add-zero, add_assoc, arith}
-use Rattle.byte_tape.specs.Bytes.{record_bytes, number_at, decoded_at, record_in}
-use Rattle.std.proofs.lemmas.List.{get_or-set_same, get_or-set_other}
+use Rattle.std.proofs.Common.{◌≡◌, ℕ, ◌+◌, ◌*◌, ◌<◌, ◌≤◌, ◌≢◌, List, length, get_or, ⊎_elim, add-zero, add_assoc, arith, rules}
+use Rattle.byte_tape.specs.Bytes.{record_bytes, number_at, decoded_at, decoded, record_in}
+use Rattle.std.proofs.lemmas.List.{places}
 use Rattle.std.proofs.lemmas.Bool.{cases_lt}
-use Rattle.tape.specs.Tapes.{with_mark}
+use borrow.Rule.Slice.PartMut.{put_mid}
 
 abbrev pub Same : List ℕ → ℕ → List ℕ → ℕ → ℕ → Type 0
 Same xs a ys b n = (m : ℕ) → m < n → get_or xs (a + m) 0 ≡ get_or ys (b + m) 0
@@ -39,59 +39,21 @@ record_same xs ys a b same =
         number_same xs ys (a + w) (b + w)
         (λ m lt. rw (add_assoc a w m, add_assoc b w m) (same (w + m) (omega arith)))
 
--- one byte written, that a number does not have
-kept : (xs : List ℕ) (i v a : ℕ) → ((m : ℕ) → m < 4 → a + m ≢ i) → number_at (set xs i v) a ≡ number_at xs a
-kept xs i v a apart = number_same (set xs i v) xs a a (λ m lt. get_or-set_other xs i (a + m) v 0 (apart m lt))
+-- a record's bytes written at a place
+module _ (xs ys : List ℕ) (k n : ℕ) (long : length ys ≡ record_bytes) (all : n ≡ record_bytes) (in' : record_bytes * k + record_bytes ≤ length xs) where
+  pub long_written : length (put_mid (record_bytes * k) n xs ys) ≡ length xs
+  long_written = search (rules, arith, places)
 
-small_number : (x y z w v : ℕ) → x * 16777216 + y * 65536 + z * 256 + w ≤ 3 → x * 16777216 + y * 65536 + z * 256 + v ≡ v
-small_number x y z w v small = omega arith
+  pub here_written : record_in (put_mid (record_bytes * k) n xs ys) k ≡ decoded ys
+  here_written =
+      record_same (put_mid (record_bytes * k) n xs ys) ys (record_bytes * k) 0
+      (λ m lt. search (rules, arith, places))
 
--- a mark's last byte is all of it
-pub marked_here : (xs : List ℕ) (a m : ℕ) → a + 43 < length xs → (decoded_at xs a).mark ≤ 3 → decoded_at (set xs (a + 43) m) a ≡ with_mark m (decoded_at xs a)
-marked_here xs a m in' small =
-    λ i. record {
-      product = kept xs (a + 43) m a (λ k lt. omega arith) i;
-      time = word 4 (omega arith) i;
-      price = word 8 (omega arith) i;
-      quantity = word 12 (omega arith) i;
-      buy = word 16 (omega arith) i;
-      sell = word 20 (omega arith) i;
-      buyer = word 24 (omega arith) i;
-      seller = word 28 (omega arith) i;
-      established = word 32 (omega arith) i;
-      no_bust = word 36 (omega arith) i;
-      mark = mark i;
-      day = kept xs (a + 43) m (a + 44) (λ k lt. omega arith) i;
-    }
-  where
-    word : (w : ℕ) → w + 4 ≤ 43 → number_at (set xs (a + 43) m) (a + w) ≡ number_at xs (a + w)
-    word w low = kept xs (a + 43) m (a + w) (λ k lt. omega arith)
-
-    other : (j : ℕ) → j < a + 43 → get_or (set xs (a + 43) m) j 0 ≡ get_or xs j 0
-    other j lt = let ne : j ≢ a + 43 = omega arith in get_or-set_other xs (a + 43) j m 0 ne
-
-    last : get_or (set xs (a + 43) m) (a + 40 + 3) 0 ≡ m
-    last = let e : a + 40 + 3 ≡ a + 43 = omega arith in rw e (get_or-set_same xs (a + 43) m 0 in')
-
-    mark : number_at (set xs (a + 43) m) (a + 40) ≡ m
-    mark =
-        rw (other (a + 40) (omega arith), other (a + 40 + 1) (omega arith), other (a + 40 + 2) (omega arith), last)
-        (small_number (get_or xs (a + 40) 0) (get_or xs (a + 40 + 1) 0) (get_or xs (a + 40 + 2) 0) (get_or xs (a + 40 + 3) 0) m small)
-
--- a byte written behind a record
-pub untouched : (xs : List ℕ) (i v a : ℕ) → a + record_bytes ≤ i → decoded_at (set xs i v) a ≡ decoded_at xs a
-untouched xs i v a behind =
-    record_same (set xs i v) xs a a (λ m lt. let ne : a + m ≢ i = omega arith in get_or-set_other xs i (a + m) v 0 ne)
-
--- a byte written in another record
-pub elsewhere : (xs : List ℕ) (i j v : ℕ) → j < record_bytes → (k : ℕ) → k ≢ i → record_in (set xs (record_bytes * i + j) v) k ≡ record_in xs k
-elsewhere xs i j v in' k ne =
-    record_same (set xs (record_bytes * i + j) v) xs (record_bytes * k) (record_bytes * k)
-    (λ m lt. get_or-set_other xs (record_bytes * i + j) (record_bytes * k + m) v 0 (apart m lt))
-  where
-    apart : (m : ℕ) → m < record_bytes → record_bytes * k + m ≢ record_bytes * i + j
-    apart m lt e =
-        ⊎_elim
-        (λ (l : k < i). let z : ⊥ = omega arith in z)
-        (λ (l : i ≤ k). let n : i < k = omega arith in let z : ⊥ = omega arith in z)
-        (cases_lt k i)
+  pub others_written : (j : ℕ) → j ≢ k → record_in (put_mid (record_bytes * k) n xs ys) j ≡ record_in xs j
+  others_written j ne =
+      record_same (put_mid (record_bytes * k) n xs ys) xs (record_bytes * j) (record_bytes * j)
+      (λ m lt.
+      ⊎_elim
+      (λ (l : j < k). let low : record_bytes * j + m < record_bytes * k = omega arith in search (rules, arith, places))
+      (λ (l : k ≤ j). let high : record_bytes * k + record_bytes ≤ record_bytes * j + m = omega arith in search (rules, arith, places))
+      (cases_lt j k))

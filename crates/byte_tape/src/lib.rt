@@ -1,21 +1,42 @@
-// A tape over lent bytes, of which the first are in use.
+// A tape over lent bytes.
 #![tactic(auto)]
 
-ghost use Rattle.std.specs.Prelude.{◌*◌, ◌≤◌, length};
-ghost use Rattle.tape.specs.Placed.{FairPlaces, RisingPlaces};
-ghost use Rattle.tape.specs.Ranges.{most_records};
+ghost use Rattle.std.specs.Prelude.{◌/◌, length};
 ghost use Rattle.byte_tape.specs.Bytes.{record_bytes, record_in};
 
 pub mod codec;
-pub mod records;
-pub mod unwritten;
 
+use crate::codec::{RECORD_BYTES, decode_at, encode};
+use lent_tape::LentTape;
+use lent_tape::places::Places;
+use tape::row::TradeRow;
+
+pub type ByteTape<'a> = LentTape<Bytes<'a>>;
+
+// Bytes that are no whole record are of no use.
 #[derive(Drop)]
-pub struct ByteTape<'a> {
-    bytes: &'a mut [u8],
-    used: u32,
-    ghost within: { record_bytes * used ≤ length bytes.now },
-    ghost few: { used ≤ most_records },
-    ghost fair: { FairPlaces (record_in bytes.now) used },
-    ghost rising: { RisingPlaces (record_in bytes.now) used },
+pub struct Bytes<'a>(pub &'a mut [u8]);
+
+impl Places for Bytes<'_> {
+    ghost size = { λ bytes. length bytes.0.now / record_bytes };
+
+    ghost at = { λ bytes place. record_in bytes.0.now place };
+
+    fn size(&self) -> usize {
+        self.0.len() / RECORD_BYTES
+    }
+
+    fn get(&self, place: usize) -> Option<TradeRow> {
+        if place >= self.size() {
+            return None;
+        }
+        Some(decode_at(self.0, RECORD_BYTES * place))
+    }
+
+    fn set(&mut self, place: usize, row: TradeRow) {
+        if place < self.size() {
+            let at = RECORD_BYTES * place;
+            self.0[at..at + RECORD_BYTES].copy_from_slice(&encode(row));
+        }
+    }
 }

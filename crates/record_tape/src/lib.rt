@@ -1,22 +1,34 @@
-// A tape over lent records, of which the first are in use.
+// A tape over lent records.
 #![tactic(auto)]
 
-ghost use Rattle.std.specs.Prelude.{◌≤◌, length, slice_index_or};
-ghost use Rattle.tape.specs.Placed.{FairPlaces, RisingPlaces};
-ghost use Rattle.tape.specs.Ranges.{most_records};
+ghost use Rattle.std.specs.Prelude.{length, slice_index_or};
 ghost use Rattle.tape.specs.Tapes.{blank};
 
-pub mod no_record;
-pub mod records;
-
+use lent_tape::LentTape;
+use lent_tape::places::Places;
 use tape::row::TradeRow;
 
+pub type RecordTape<'a> = LentTape<Records<'a>>;
+
 #[derive(Drop)]
-pub struct RecordTape<'a> {
-    rows: &'a mut [TradeRow],
-    used: u32,
-    ghost within: { used ≤ length rows.now },
-    ghost few: { used ≤ most_records },
-    ghost fair: { FairPlaces (λ k. slice_index_or rows.now k blank) used },
-    ghost rising: { RisingPlaces (λ k. slice_index_or rows.now k blank) used },
+pub struct Records<'a>(pub &'a mut [TradeRow]);
+
+impl Places for Records<'_> {
+    ghost size = { λ records. length records.0.now };
+
+    ghost at = { λ records place. slice_index_or records.0.now place blank };
+
+    fn size(&self) -> usize {
+        self.0.len()
+    }
+
+    fn get(&self, place: usize) -> Option<TradeRow> {
+        self.0.get(place).copied()
+    }
+
+    fn set(&mut self, place: usize, row: TradeRow) {
+        if place < self.0.len() {
+            self.0[place] = row;
+        }
+    }
 }

@@ -30,16 +30,11 @@ back_more f test rows n some in' =
     ∙ sum_by-append f (filter test (take (n - 1) rows)) (cond (test r) (r ∷ []) [])
     ∙ ap (λ (k : ℕ). sum_by f (filter test (take (n - 1) rows)) + k) (one_kept (test r) f r)
 
--- the record that the walk is at, when n are left
-pub walked : (rows : List TradeRow) (n : ℕ) (trade : Trade) → 0 < n → Found rows (n - 1 + 1) trade → row_of trade ≡ get_or rows (n - 1) blank
-walked rows n trade some found =
-    let e : n - 1 + 1 - 1 ≡ n - 1 = omega arith in found.same ∙ ap (λ (k : ℕ). get_or rows k blank) e
-
-module _ (f : TradeRow → ℕ) (product time : ℕ) (rows : List TradeRow) (n : ℕ) (trade : Trade) (some : 0 < n) (in' : n ≤ length rows) (found : Found rows (n - 1 + 1) trade) where
+module _ (f : TradeRow → ℕ) (product time : ℕ) (rows : List TradeRow) (n : ℕ) (trade : Trade) (some : 0 < n) (in' : n ≤ length rows) (found : Found rows n trade) where
   at_trade : sum_by f (window product time (take n rows)) ≡ sum_by f (window product time (take (n - 1) rows)) + cond (in_window product time (row_of trade)) (f (row_of trade)) 0
   at_trade =
       back_more f (in_window product time) rows n some in'
-      ∙ ap (λ (r : TradeRow). sum_by f (window product time (take (n - 1) rows)) + cond (in_window product time r) (f r) 0) (sym (walked rows n trade some found))
+      ∙ ap (λ (r : TradeRow). sum_by f (window product time (take (n - 1) rows)) + cond (in_window product time r) (f r) 0) (sym found.same)
 
   pub back_taken : trade.product ≡ product → time ≤ trade.time + window_seconds → sum_by f (window product time (take n rows)) ≡ sum_by f (window product time (take (n - 1) rows)) + f (row_of trade)
   back_taken same late =
@@ -59,9 +54,9 @@ kept_none test (r ∷ rows) h =
     rw (All-head (λ r. test r ≡ false) r rows h) (kept_none test rows (All-tail (λ r. test r ≡ false) r rows h))
 
 -- where one record is too old, so is each before it
-pub back_done : (product time : ℕ) (rows : List TradeRow) (n : ℕ) → Rising rows → 0 < n → n ≤ length rows → (trade : Trade) → Found rows (n - 1 + 1) trade → trade.time + window_seconds < time → window product time (take n rows) ≡ []
+pub back_done : (product time : ℕ) (rows : List TradeRow) (n : ℕ) → Rising rows → 0 < n → n ≤ length rows → (trade : Trade) → Found rows n trade → trade.time + window_seconds < time → window product time (take n rows) ≡ []
 back_done product time rows n rises some in' trade found early =
-    let old : trade.time ≡ (get_or rows (n - 1) blank).time = ap (λ (r : TradeRow). r.time) (walked rows n trade some found) in
+    let old : trade.time ≡ (get_or rows (n - 1) blank).time = ap (λ (r : TradeRow). r.time) found.same in
     kept_none (in_window product time) (take n rows)
     (All-from_get_or (λ r. in_window product time r ≡ false) (take n rows) blank
     (λ i lt.

@@ -1,73 +1,89 @@
 // From plain numbers to a trade, and back.
 ghost use Rattle.std.specs.Prelude.{◌≡◌, true};
+ghost use Rattle.std.specs.Result.{result_ok};
 ghost use Rattle.tape.specs.Rows.{fair};
 ghost use Rattle.tape.specs.Trades.{row_of, Checks};
 
 use crate::row::TradeRow;
 use crate::trade::Trade;
-use terms::mark::Mark;
-use terms::participant::Participant;
-use terms::price::Price;
-use terms::quantity::Quantity;
+use terms::field::Field;
+use terms::mark::NoMark;
+use terms::stamp::NeverGiven;
 
 impl Trade {
     pub const LAST_PRODUCT: u32 = 31;
 
     // in ticks
     pub const WIDEST_NO_BUST: u32 = 100_000;
+}
 
-    pub fn row(self) -> TradeRow
-        ensures value { result ≡ row_of self }
-        ensures kept { fair result ≡ true }
-    {
+impl From<Trade> for TradeRow {
+    ghost from_gives = { λ trade row. (row ≡ row_of trade) × (fair row ≡ true) };
+
+    #[tactic(auto, unfolding(crate::specs::Rows::fair))]
+    fn from(trade: Trade) -> TradeRow {
         TradeRow {
-            product: self.product,
-            time: self.time,
-            price: self.price.ticks(),
-            quantity: self.quantity.lots(),
-            buy: self.buy,
-            sell: self.sell,
-            buyer: self.buyer.number(),
-            seller: self.seller.number(),
-            established: self.established.ticks(),
-            no_bust: self.no_bust,
-            mark: self.mark.into(),
-            day: self.day,
+            product: trade.product,
+            time: trade.time,
+            price: trade.price.ticks(),
+            quantity: trade.quantity.lots(),
+            buy: trade.buy.number(),
+            sell: trade.sell.number(),
+            buyer: trade.buyer.number(),
+            seller: trade.seller.number(),
+            established: trade.established.ticks(),
+            no_bust: trade.no_bust,
+            mark: trade.mark.into(),
+            day: trade.day,
         }
     }
 }
 
-impl TradeRow {
-    // The trade of these numbers; none where one of them is out of its range.
-    pub fn trade(self) -> Option<Trade>
-        ensures { Checks self result }
-    {
-        let price = Price::try_from(self.price).ok()?;
-        let quantity = Quantity::try_from(self.quantity).ok()?;
-        let buyer = Participant::try_from(self.buyer).ok()?;
-        let seller = Participant::try_from(self.seller).ok()?;
-        let established = Price::try_from(self.established).ok()?;
-        let mark = Mark::try_from(self.mark).ok()?;
-        if self.product > Trade::LAST_PRODUCT
-            || self.buy < 1
-            || self.sell < 1
-            || self.no_bust > Trade::WIDEST_NO_BUST
-        {
-            return None;
+// One of the numbers is out of its range.
+#[derive(Clone, Copy, PartialEq, Eq, Debug)]
+pub struct NoTrade;
+
+impl From<Field> for NoTrade {
+    fn from(_: Field) -> NoTrade {
+        NoTrade
+    }
+}
+
+impl From<NeverGiven> for NoTrade {
+    fn from(_: NeverGiven) -> NoTrade {
+        NoTrade
+    }
+}
+
+impl From<NoMark> for NoTrade {
+    fn from(_: NoMark) -> NoTrade {
+        NoTrade
+    }
+}
+
+impl TryFrom<TradeRow> for Trade {
+    type Error = NoTrade;
+
+    ghost try_from_gives = { λ row r. Checks row (result_ok r) };
+
+    #[tactic(auto, unfolding(crate::specs::Rows::fair))]
+    fn try_from(row: TradeRow) -> Result<Trade, NoTrade> {
+        if row.product > Trade::LAST_PRODUCT || row.no_bust > Trade::WIDEST_NO_BUST {
+            return Err(NoTrade);
         }
-        Some(Trade {
-            product: self.product,
-            time: self.time,
-            price,
-            quantity,
-            buy: self.buy,
-            sell: self.sell,
-            buyer,
-            seller,
-            established,
-            no_bust: self.no_bust,
-            mark,
-            day: self.day,
+        Ok(Trade {
+            product: row.product,
+            time: row.time,
+            price: row.price.try_into()?,
+            quantity: row.quantity.try_into()?,
+            buy: row.buy.try_into()?,
+            sell: row.sell.try_into()?,
+            buyer: row.buyer.try_into()?,
+            seller: row.seller.try_into()?,
+            established: row.established.try_into()?,
+            no_bust: row.no_bust,
+            mark: row.mark.try_into()?,
+            day: row.day,
         })
     }
 }

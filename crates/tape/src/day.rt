@@ -4,19 +4,16 @@ ghost use Rattle.tape.specs.Days.{TellsLast, IsLast};
 use crate::Tape;
 use crate::last::LastTrade;
 use crate::reading::known;
-use terms::refusal::Refusal;
 
 pub fn last_of_day<T: Tape>(tape: &T, product: u32, day: u32) -> Option<LastTrade>
-where
-    Refusal: From<T::Fault>,
     ensures value { TellsLast product day (T.Tape.records tape.now) result }
     ensures last { IsLast product day (T.Tape.records tape.now) result }
 {
-    for i in (0..tape.count()).rev() {
-        let trade = known(tape, i + 1);
+    for number in (1..=tape.count()).rev() {
+        let trade = known(tape, number);
         if trade.product == product && trade.day == day {
             return Some(LastTrade {
-                number: i + 1,
+                number,
                 price: trade.price,
             });
         }

@@ -24,12 +24,9 @@ use terms::refusal::Refusal;
 // The records that a tape may ever hold.
 pub const RECORDS: usize = 65_536;
 
-pub trait Tape
-where
-    Refusal: From<Self::Fault>,
-{
+pub trait Tape {
     // the tape's own word for a record that it lacks
-    type Fault: Drop;
+    type Fault: Drop + Into<Refusal>;
 
     // the meaning: records, numbered from 1, and how many more there is room for
     ghost records: { Self → List Row };
@@ -54,12 +51,12 @@ where
 
     fn read(&self, n: u32) -> Result<Trade, Self::Fault>
         ensures answer { Reads told (records self.now) n result }
-        ensures tells { Tells bound-2.from_gives told };
+        ensures tells { Tells Self.Fault.converts told };
 
     fn add(&mut self, trade: Trade) -> Result<(), AddFault>
         ensures { Adds records space self.old trade self.new result };
 
     fn mark(&mut self, n: u32, mark: Mark) -> Result<(), Self::Fault>
         ensures answer { Marks records space told self.old n mark self.new result }
-        ensures tells { Tells bound-2.from_gives told };
+        ensures tells { Tells Self.Fault.converts told };
 }

@@ -7,17 +7,13 @@ use crate::trade::Trade;
 use terms::refusal::Refusal;
 
 pub fn trade_at<T: Tape>(tape: &T, n: u32) -> Result<Trade, Refusal>
-where
-    Refusal: From<T::Fault>,
     ensures { TradeAt (T.Tape.records tape.now) n result }
 {
-    Ok(tape.read(n)?)
+    tape.read(n).map_err(Into::into)
 }
 
 // The time of the last record; 0 where there is none.
 pub fn last_time<T: Tape>(tape: &T) -> u32
-where
-    Refusal: From<T::Fault>,
     ensures { result ≡ latest (T.Tape.records tape.now) }
 {
     let count = tape.count();
@@ -29,13 +25,8 @@ where
 
 // A record that is known to be there.
 pub(crate) fn known<T: Tape>(tape: &T, n: u32) -> Trade
-where
-    Refusal: From<T::Fault>,
     requires { on_tape (T.Tape.records tape.now) n ≡ true }
     ensures { Found (T.Tape.records tape.now) n result }
 {
-    match tape.read(n) {
-        Ok(trade) => trade,
-        Err(_) => unreachable(),
-    }
+    trade_at(tape, n).unwrap()
 }

@@ -6,16 +6,17 @@ use terms::mark::Mark;
 use terms::participant::Participant;
 use terms::price::Price;
 use terms::quantity::Quantity;
+use terms::stamp::Stamp;
 
-#[derive(Clone, Copy)]
+#[derive(Clone, Copy, PartialEq, Eq, Debug)]
 pub struct Trade {
     pub product: u32,
     pub time: u32,
     pub price: Price,
     pub quantity: Quantity,
     // the two orders, by their numbers
-    pub buy: u32,
-    pub sell: u32,
+    pub buy: Stamp,
+    pub sell: Stamp,
     pub buyer: Participant,
     pub seller: Participant,
     // the established market price as the trade found it, and how far from it nothing is taken back
@@ -24,7 +25,5 @@ pub struct Trade {
     pub mark: Mark,
     pub day: u32,
     ghost listed: { product ≤ last_product },
-    ghost bought: { 1 ≤ buy },
-    ghost sold: { 1 ≤ sell },
     ghost narrow: { no_bust ≤ widest_no_bust },
 }

@@ -4,7 +4,6 @@ ghost use Rattle.tape.specs.Windows.{window, turnover as worth_of, volume as lot
 
 use crate::Tape;
 use crate::reading::known;
-use terms::refusal::Refusal;
 
 #[derive(Clone, Copy, PartialEq, Eq, Debug)]
 pub struct Sums {
@@ -19,16 +18,14 @@ impl Sums {
 
     // Times never fall, so the walk goes back from the last record and stops at the first that is too old.
     pub fn before<T: Tape>(tape: &T, product: u32, time: u32) -> Sums
-    where
-        Refusal: From<T::Fault>,
         ensures turnover { result.turnover ≡ worth_of (window product time (T.Tape.records tape.now)) }
         ensures volume { result.volume ≡ lots_of (window product time (T.Tape.records tape.now)) }
     {
         let since = time.saturating_sub(Sums::WINDOW_SECONDS);
         let mut turnover = 0;
         let mut volume = 0;
-        for i in (0..tape.count()).rev() {
-            let trade = known(tape, i + 1);
+        for number in (1..=tape.count()).rev() {
+            let trade = known(tape, number);
             if trade.time < since {
                 return Sums { turnover, volume };
             }

@@ -1,7 +1,7 @@
 // One record, byte by byte.
 use crate::sample::{EXAMPLE, trade};
-use byte_tape::ByteTape;
 use byte_tape::codec::{decode, encode};
+use byte_tape::{ByteTape, Bytes};
 use std::test::Fail;
 use tape::Tape;
 use terms::mark::Mark;
@@ -13,10 +13,7 @@ const BYTES: [u8; 48] = [
 
 #[test]
 fn encoded_and_back(rt: HostRuntime) {
-    let bytes = encode(EXAMPLE);
-    for i in 0..48 {
-        assert_eq!(rt; bytes[i], BYTES[i]);
-    }
+    assert_eq!(rt; encode(EXAMPLE), BYTES);
     assert_eq!(rt; decode(&BYTES), EXAMPLE);
 }
 
@@ -25,16 +22,15 @@ fn encoded_and_back(rt: HostRuntime) {
 fn in_memory(rt: HostRuntime) -> Result<(), Fail> {
     let mut bytes = [255; 97];
     {
-        let mut tape = ByteTape::new(&mut bytes);
+        let mut tape = ByteTape::new(Bytes(&mut bytes));
         tape.add(trade(EXAMPLE)?)?;
         tape.add(trade(EXAMPLE)?)?;
         tape.mark(2, Mark::Cancelled)?;
     }
-    for i in 0..48 {
-        assert_eq!(rt; bytes[i], BYTES[i]);
-        let second = if i == 43 { 3 } else { BYTES[i] };
-        assert_eq!(rt; bytes[48 + i], second);
-    }
+    let mut second = BYTES;
+    second[43] = 3;
+    assert_eq!(rt; &bytes[..48], BYTES.as_slice());
+    assert_eq!(rt; &bytes[48..96], second.as_slice());
     assert_eq!(rt; bytes[96], 255);
     Ok(())
 }

@@ -33,11 +33,8 @@ pub const EXAMPLE: TradeRow = TradeRow {
     day: 1,
 };
 
-#[derive(Clone, Copy, Debug)]
-struct NoTrade;
-
 pub fn trade(row: TradeRow) -> Result<Trade, Fail> {
-    Ok(row.trade().ok_or(NoTrade)?)
+    Ok(Trade::try_from(row)?)
 }
 
 pub fn trade_of(product: u32, time: u32, price: u32, quantity: u32) -> Result<Trade, Fail> {

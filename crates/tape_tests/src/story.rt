@@ -1,7 +1,7 @@
 // A day of trades, told by any tape.
 use crate::sample::{BLANK, trade_of};
-use byte_tape::ByteTape;
-use record_tape::RecordTape;
+use byte_tape::{ByteTape, Bytes};
+use record_tape::{RecordTape, Records};
 use std::process::Abort;
 use std::test::Fail;
 use tape::Tape;
@@ -23,11 +23,8 @@ struct Told {
 }
 
 // Each tape's own fault becomes a refusal on its way up.
-fn consider<T: Tape>(tape: &mut T, n: u32) -> Result<(), Refusal>
-where
-    Refusal: From<T::Fault>,
-{
-    Ok(tape.mark(n, Mark::Considered)?)
+fn consider<T: Tape>(tape: &mut T, n: u32) -> Result<(), Refusal> {
+    tape.mark(n, Mark::Considered).map_err(Into::into)
 }
 
 // The number asked for and the count, as the refusal of a missing trade tells them.
@@ -39,16 +36,10 @@ fn missing(refusal: Refusal) -> Option<(u32, u32)> {
 }
 
 fn worth(last: Option<LastTrade>) -> Option<(u32, u32)> {
-    match last {
-        Some(trade) => Some((trade.number, trade.price.ticks())),
-        None => None,
-    }
+    last.map(|trade| (trade.number, trade.price.ticks()))
 }
 
-fn lacks<T: Tape>(rt: &impl Abort, tape: &mut T) -> Result<(), Fail>
-where
-    Refusal: From<T::Fault>,
-{
+fn lacks<T: Tape>(rt: &impl Abort, tape: &mut T) -> Result<(), Fail> {
     let Err(refusal) = consider(tape, 0) else {
         return Err(Fail::new("record 0 was marked"));
     };
@@ -60,10 +51,7 @@ where
     Ok(())
 }
 
-fn tell<T: Tape>(rt: &impl Abort, tape: &mut T) -> Result<Told, Fail>
-where
-    Refusal: From<T::Fault>,
-{
+fn tell<T: Tape>(rt: &impl Abort, tape: &mut T) -> Result<Told, Fail> {
     assert_eq!(rt; last_time(tape), 0);
     tape.add(trade_of(3, 39, 100, 7)?)?;
     tape.add(trade_of(3, 40, 200, 5)?)?;
@@ -79,7 +67,7 @@ where
         sums: Sums::before(tape, 3, 100),
         last: worth(last_of_day(tape, 4, 1)),
         none: worth(last_of_day(tape, 4, 2)),
-        second: second.row(),
+        second: second.into(),
     })
 }
 
@@ -87,8 +75,8 @@ where
 fn both_tell_the_same(rt: HostRuntime) -> Result<(), Fail> {
     let mut rows = [BLANK; 4];
     let mut bytes = [0; 192];
-    let a = tell(&rt, &mut RecordTape::new(&mut rows))?;
-    let b = tell(&rt, &mut ByteTape::new(&mut bytes))?;
+    let a = tell(&rt, &mut RecordTape::new(Records(&mut rows)))?;
+    let b = tell(&rt, &mut ByteTape::new(Bytes(&mut bytes)))?;
     assert_eq!(rt; a, b);
     assert_eq!(rt; a.time, 100);
     assert_eq!(rt;

@@ -1,7 +1,7 @@
-use Rattle.std.proofs.Common.{◌≡◌, ℕ, ◌+◌, ◌-◌, ◌<◌, ◌≤◌, Bool, true, false, cond, eqb, leb, length, get_or, take, Some, sym, ap, ◌∙◌, ⊎_elim, arith}
+use Rattle.std.proofs.Common.{◌≡◌, ℕ, ◌-◌, ◌<◌, ◌≤◌, Bool, true, false, cond, eqb, leb, length, get_or, take, Some, sym, ap, ◌∙◌, ⊎_elim, arith}
 use Rattle.std.proofs.lemmas.List.{take_all}
 use Rattle.std.proofs.lemmas.Bool.{and_from, and_left, and_right, and_parts, eq-eqb, ne_eqb, leb-true, cases_lt}
-use Rattle.tape.proofs.Back.{last_more, walked}
+use Rattle.tape.proofs.Back.{last_more}
 use Rattle.tape.proofs.day.last_of_day.Goals as goal
 use Rattle.tape.proofs.day.last_of_day.Goals.{else-trade-product-via-then-trade-product+else-trade-day, else-trade-product-via-else-trade-product}
 use Rattle.tape.specs.Days.{of_day, last_of}
@@ -9,10 +9,10 @@ use Rattle.tape.specs.Tapes.{blank, record_at}
 use Rattle.tape.specs.Trades.{row_of}
 use Rattle.tape.specs.declared.row.TradeRow.{TradeRow}
 
-pub loop-i-init : goal.loop-i-init
-loop-i-init g c =
+pub loop-number-init : goal.loop-number-init
+loop-number-init g c =
     let rows = g.T.Tape.records c.args.tape.now in
-    let all : take c.count-i.result rows ≡ rows = take_all c.count-i.result rows (omega arith) in
+    let all : take c.count-number.result rows ≡ rows = take_all c.count-number.result rows (omega arith) in
     (ap (last_of c.args.product c.args.day) all, λ k past in'. absurd {A = of_day c.args.product c.args.day (record_at rows k) ≡ false} (omega arith))
 
 pub returns-then-trade-day : goal.returns-then-trade-day
@@ -20,30 +20,29 @@ returns-then-trade-day g c =
     let rows = g.T.Tape.records c.args.tape.now in
     let product = c.args.product in
     let day = c.args.day in
-    let n = c.loop-i.i in
+    let n = c.loop-number.number in
     let trade = c.known-trade.result in
-    let e : n - 1 + 1 ≡ n = omega arith in
     let here : of_day product day (row_of trade) ≡ true =
     and_from (eqb trade.product product) (eqb trade.day day) (eq-eqb trade.product product c.if-trade-product.true) (eq-eqb trade.day day c.if-trade-day.true) in
     let at : of_day product day (get_or rows (n - 1) blank) ≡ true =
-    ap (of_day product day) (sym (walked rows n trade c.loop-i-test.true c.known-trade.ensures)) ∙ here in
+    ap (of_day product day) (sym c.known-trade.ensures.same) ∙ here in
     let found : last_of product day rows ≡ Some n =
-    sym c.loop-i.invariant.0 ∙ last_more product day rows n c.loop-i-test.true (omega arith) ∙ ap (λ (b : Bool). cond b (Some n) (last_of product day (take (n - 1) rows))) at in
+    sym c.loop-number.invariant.0 ∙ last_more product day rows n c.loop-number-test.true (omega arith) ∙ ap (λ (b : Bool). cond b (Some n) (last_of product day (take (n - 1) rows))) at in
     record {
-      value = (found ∙ ap (λ (k : ℕ). Some k) (sym e), ap (λ (r : TradeRow). r.price) c.known-trade.ensures.same);
+      value = (found, ap (λ (r : TradeRow). r.price) c.known-trade.ensures.same);
       last = (
         c.known-trade.ensures.there,
         ap (of_day product day) (sym c.known-trade.ensures.same) ∙ here,
-        λ k past on. c.loop-i.invariant.1 k (omega arith) (leb-true k (length rows) (and_parts (leb 1 k) (leb k (length rows)) on).1),
+        λ k past on. c.loop-number.invariant.1 k (omega arith) (leb-true k (length rows) (and_parts (leb 1 k) (leb k (length rows)) on).1),
       );
     }
 
-pub loop-i-preserved : goal.loop-i-preserved
-loop-i-preserved g c =
+pub loop-number-preserved : goal.loop-number-preserved
+loop-number-preserved g c =
     let rows = g.T.Tape.records c.args.tape.now in
     let product = c.args.product in
     let day = c.args.day in
-    let n = c.loop-i.i in
+    let n = c.loop-number.number in
     let trade = c.known-trade.result in
     let other : of_day product day (row_of trade) ≡ false =
     elim c.else-trade-product.branch [
@@ -51,11 +50,11 @@ loop-i-preserved g c =
       | else-trade-product-via-else-trade-product w ↦ and_left (eqb trade.product product) (eqb trade.day day) (ne_eqb trade.product product w.if-trade-product.false)
     ] in
     let at : of_day product day (get_or rows (n - 1) blank) ≡ false =
-    ap (of_day product day) (sym (walked rows n trade c.loop-i-test.true c.known-trade.ensures)) ∙ other in (
-      sym (last_more product day rows n c.loop-i-test.true (omega arith) ∙ ap (λ (b : Bool). cond b (Some n) (last_of product day (take (n - 1) rows))) at) ∙ c.loop-i.invariant.0,
+    ap (of_day product day) (sym c.known-trade.ensures.same) ∙ other in (
+      sym (last_more product day rows n c.loop-number-test.true (omega arith) ∙ ap (λ (b : Bool). cond b (Some n) (last_of product day (take (n - 1) rows))) at) ∙ c.loop-number.invariant.0,
       λ k past in'.
           ⊎_elim
-          (λ (l : n < k). c.loop-i.invariant.1 k l in')
+          (λ (l : n < k). c.loop-number.invariant.1 k l in')
           (λ (l : k ≤ n). let e : k ≡ n = omega arith in rw e at)
           (cases_lt n k),
     )
@@ -63,12 +62,12 @@ loop-i-preserved g c =
 pub returns : goal.returns
 returns g c =
     let rows = g.T.Tape.records c.args.tape.now in
-    let e : c.loop-i.i ≡ 0 = omega arith in
+    let e : c.loop-number.number ≡ 0 = omega arith in
     record {
-      value = sym c.loop-i.invariant.0 ∙ ap (λ (k : ℕ). last_of c.args.product c.args.day (take k rows)) e;
+      value = sym c.loop-number.invariant.0 ∙ ap (λ (k : ℕ). last_of c.args.product c.args.day (take k rows)) e;
       last = λ k on.
           let p = and_parts (leb 1 k) (leb k (length rows)) on in
           let low = leb-true 1 k p.0 in
           let high = leb-true k (length rows) p.1 in
-          c.loop-i.invariant.1 k (omega arith) high;
+          c.loop-number.invariant.1 k (omega arith) high;
     }

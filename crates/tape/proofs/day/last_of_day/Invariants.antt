@@ -4,8 +4,8 @@ use Rattle.tape.specs.Days.{of_day, last_of}
 use Rattle.tape.specs.Tapes.{record_at}
 
 -- the records still to be read have the last one, and none of the others is of the day
-abbrev pub invariant-loop-i : goal.invariant-loop-i
-invariant-loop-i g l =
+abbrev pub invariant-loop-number : goal.invariant-loop-number
+invariant-loop-number g l =
     let rows = g.T.Tape.records l.tape in
-    (last_of l.product l.day (take l.i rows) ≡ last_of l.product l.day rows)
-    × ((k : ℕ) → l.i < k → k ≤ length rows → of_day l.product l.day (record_at rows k) ≡ false)
+    (last_of l.product l.day (take l.number rows) ≡ last_of l.product l.day rows)
+    × ((k : ℕ) → l.number < k → k ≤ length rows → of_day l.product l.day (record_at rows k) ≡ false)

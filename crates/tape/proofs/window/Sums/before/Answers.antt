@@ -3,37 +3,38 @@ use Rattle.std.proofs.lemmas.List.{take_all}
 use Rattle.tape.proofs.Back.{back_taken, back_passed, back_done, turnover_bound, volume_bound}
 use Rattle.tape.proofs.window.Sums.before.Given as given
 use Rattle.tape.proofs.window.Sums.before.Goals as goal
+use Rattle.tape.proofs.window.Sums.before.Goals.{then-trade-product, else-trade-product}
 use Rattle.tape.specs.Ranges.{most_records}
 use Rattle.tape.specs.Windows.{window, worth, turnover, volume}
 
-pub loop-i-init : goal.loop-i-init
-loop-i-init g c =
+pub loop-number-init : goal.loop-number-init
+loop-number-init g c =
     let rows = g.T.Tape.records c.args.tape.now in
-    let all : take c.count-i.result rows ≡ rows = take_all c.count-i.result rows (omega arith) in
+    let all : take c.count-number.result rows ≡ rows = take_all c.count-number.result rows (omega arith) in
     rw all (omega arith, omega arith)
 
 pub returns-then-trade-since : goal.returns-then-trade-since
 returns-then-trade-since g c =
     let rows = g.T.Tape.records c.args.tape.now in
-    let none : window c.args.product c.args.time (take c.loop-i.i rows) ≡ [] =
-    back_done c.args.product c.args.time rows c.loop-i.i (g.T.Tape.rising c.args.tape.now) c.loop-i-test.true (omega arith) c.known-trade.result c.known-trade.ensures (omega arith) in
+    let none : window c.args.product c.args.time (take c.loop-number.number rows) ≡ [] =
+    back_done c.args.product c.args.time rows c.loop-number.number (g.T.Tape.rising c.args.tape.now) c.loop-number-test.true (omega arith) c.known-trade.result c.known-trade.ensures (omega arith) in
     let a = ap turnover none in
     let b = ap volume none in
     record { turnover = omega arith; volume = omega arith }
 
-more-turnover : (g : given.Over) (c : goal.After-from g) → turnover (window c.args.product c.args.time (take c.loop-i.i (g.T.Tape.records c.args.tape.now))) ≡ turnover (window c.args.product c.args.time (take (c.loop-i.i - 1) (g.T.Tape.records c.args.tape.now))) + c.from.result * c.from-lots.result
+more-turnover : (g : given.Over) (c : goal.After-from g) → turnover (window c.args.product c.args.time (take c.loop-number.number (g.T.Tape.records c.args.tape.now))) ≡ turnover (window c.args.product c.args.time (take (c.loop-number.number - 1) (g.T.Tape.records c.args.tape.now))) + c.from.result * c.from-lots.result
 more-turnover g c =
     let rows = g.T.Tape.records c.args.tape.now in
     let trade = c.known-trade.result in
     let e : c.from.result * c.from-lots.result ≡ trade.price.ticks * trade.quantity.lots = cc in
-    rw e (back_taken worth c.args.product c.args.time rows c.loop-i.i trade c.loop-i-test.true (omega arith) c.known-trade.ensures c.if-trade-product.true (omega arith))
+    rw e (back_taken worth c.args.product c.args.time rows c.loop-number.number trade c.loop-number-test.true (omega arith) c.known-trade.ensures c.if-trade-product.true (omega arith))
 
-more-volume : (g : given.Over) (c : goal.After-from g) → volume (window c.args.product c.args.time (take c.loop-i.i (g.T.Tape.records c.args.tape.now))) ≡ volume (window c.args.product c.args.time (take (c.loop-i.i - 1) (g.T.Tape.records c.args.tape.now))) + c.from-lots.result
+more-volume : (g : given.Over) (c : goal.After-from g) → volume (window c.args.product c.args.time (take c.loop-number.number (g.T.Tape.records c.args.tape.now))) ≡ volume (window c.args.product c.args.time (take (c.loop-number.number - 1) (g.T.Tape.records c.args.tape.now))) + c.from-lots.result
 more-volume g c =
     let rows = g.T.Tape.records c.args.tape.now in
     let trade = c.known-trade.result in
     let e : c.from-lots.result ≡ trade.quantity.lots = cc in
-    rw e (back_taken (λ r. r.quantity) c.args.product c.args.time rows c.loop-i.i trade c.loop-i-test.true (omega arith) c.known-trade.ensures c.if-trade-product.true (omega arith))
+    rw e (back_taken (λ r. r.quantity) c.args.product c.args.time rows c.loop-number.number trade c.loop-number-test.true (omega arith) c.known-trade.ensures c.if-trade-product.true (omega arith))
 
 pub overflow_add-turnover : goal.overflow_add-turnover
 overflow_add-turnover g c =
@@ -49,12 +50,19 @@ overflow_add-volume g c =
     let few : length rows ≤ most_records = omega (arith, g.T.Tape.bounded tape) in
     omega (arith, more-volume g c, volume_bound c.args.product c.args.time rows (g.T.Tape.fair tape) few)
 
-pub loop-i-preserved-then-trade-product : goal.loop-i-preserved-then-trade-product
-loop-i-preserved-then-trade-product g c = (omega (arith, more-turnover g c), omega (arith, more-volume g c))
-
-pub loop-i-preserved : goal.loop-i-preserved
-loop-i-preserved g c =
+pub loop-number-preserved : goal.loop-number-preserved
+loop-number-preserved g c =
     let rows = g.T.Tape.records c.args.tape.now in
-    let a = back_passed worth c.args.product c.args.time rows c.loop-i.i c.known-trade.result c.loop-i-test.true (omega arith) c.known-trade.ensures c.if-trade-product.false in
-    let b = back_passed (λ r. r.quantity) c.args.product c.args.time rows c.loop-i.i c.known-trade.result c.loop-i-test.true (omega arith) c.known-trade.ensures c.if-trade-product.false in
-    (omega arith, omega arith)
+    let trade = c.known-trade.result in
+    elim c.if-trade-product.branch [
+      | then-trade-product w ↦
+          let e : w.from.result * w.from-lots.result ≡ trade.price.ticks * trade.quantity.lots = cc in
+          let f : w.from-lots.result ≡ trade.quantity.lots = cc in
+          let a = back_taken worth c.args.product c.args.time rows c.loop-number.number trade c.loop-number-test.true (omega arith) c.known-trade.ensures w.if-trade-product.true (omega arith) in
+          let b = back_taken (λ r. r.quantity) c.args.product c.args.time rows c.loop-number.number trade c.loop-number-test.true (omega arith) c.known-trade.ensures w.if-trade-product.true (omega arith) in
+          (omega (arith, w.turnover-is, e, a), omega (arith, w.volume-is, f, b))
+      | else-trade-product w ↦
+          let a = back_passed worth c.args.product c.args.time rows c.loop-number.number trade c.loop-number-test.true (omega arith) c.known-trade.ensures w.if-trade-product.false in
+          let b = back_passed (λ r. r.quantity) c.args.product c.args.time rows c.loop-number.number trade c.loop-number-test.true (omega arith) c.known-trade.ensures w.if-trade-product.false in
+          (omega (arith, w.turnover-is, a), omega (arith, w.volume-is, b))
+    ]
