@@ -12,7 +12,7 @@ pub mod makes;
 pub mod questions;
 
 // What is above the count is not part of the listing.
-#[derive(Clone, Copy)]
+#[derive(Clone, Copy, PartialEq, Eq, Debug)]
 pub struct Products {
     rows: [Product; 32],
     count: usize,

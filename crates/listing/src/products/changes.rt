@@ -13,21 +13,16 @@ use terms::field::Field;
 use terms::price::Price;
 use terms::refusal::Refusal;
 
-fn fits_frenetic(daily: u32, ticks: u32) -> bool
-    ensures { result ≡ frenetic_fits daily ticks }
+fn fits_frenetic(daily: u32, frenetic: Option<u32>) -> bool
+    ensures { result ≡ frenetic_fits daily frenetic }
 {
-    (ticks == 0) | ((daily < ticks) & (ticks <= Listed::WIDEST_DAILY))
+    frenetic.is_none_or(|ticks| daily < ticks && ticks <= Listed::WIDEST_DAILY)
 }
 
 fn are_prices(numbers: &[u32]) -> bool
     ensures { result ≡ all_prices numbers.now }
 {
-    for n in numbers {
-        if *n > Price::HIGHEST {
-            return false;
-        }
-    }
-    true
+    numbers.iter().all(|n| *n <= Price::HIGHEST)
 }
 
 impl Products {
@@ -64,13 +59,14 @@ impl Products {
         ensures after { contents self.new ≡ left_by (widen_check self.old n ticks) (contents self.old) (with_product self.old n (with_frenetic ticks (product_in self.old n))) }
     {
         let product = self.product(n)?;
-        if !fits_frenetic(product.listed.daily, ticks) {
+        let frenetic = (ticks != 0).then_some(ticks);
+        if !fits_frenetic(product.listed.daily, frenetic) {
             return Err(Refusal::OutOfRange(Field::FreneticTicks));
         }
         self.write(
             n,
             Product {
-                frenetic: ticks,
+                frenetic,
                 ..product
             },
         );

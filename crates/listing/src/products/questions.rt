@@ -47,12 +47,7 @@ impl Products {
     pub fn is_any_halted(&self) -> bool
         ensures { result ≡ any_halted (products_of self.now) }
     {
-        for n in 0..self.count {
-            if self.rows[n].halted {
-                return true;
-            }
-        }
-        false
+        self.rows[..self.count].iter().any(|p| p.halted)
     }
 
     // The lowest and the highest price at which a product may trade.
