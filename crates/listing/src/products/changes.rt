@@ -92,16 +92,11 @@ impl Products {
     pub fn lift(&mut self)
         ensures { contents self.new ≡ without_halts self.old }
     {
-        for n in 0..self.count {
-            let product = self.rows[n];
-            self.write(
-                n as u32,
-                Product {
-                    halted: false,
-                    ..product
-                },
-            );
+        let mut rows = self.rows;
+        for product in &mut rows[..self.count] {
+            product.halted = false;
         }
+        self.rows = rows;
     }
 
     fn set_references(&mut self, prices: &[u32])
@@ -109,15 +104,8 @@ impl Products {
         requires priced { all_prices prices.now ≡ true }
         ensures { contents self.new ≡ with_settlements self.old prices.now }
     {
-        for n in 0..prices.len() {
-            let product = self.rows[n];
-            self.write(
-                n as u32,
-                Product {
-                    reference: prices[n],
-                    ..product
-                },
-            );
+        for (n, price) in prices.iter().enumerate() {
+            self.rows[n].reference = *price;
         }
     }
 

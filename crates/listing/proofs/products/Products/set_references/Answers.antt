@@ -1,23 +1,23 @@
 use Rattle.std.proofs.Common.{◌≡◌, ℕ, ◌<◌, List, take, refl, ap, ◌∙◌, arith}
 use Rattle.std.proofs.lemmas.List.{take_all}
 use Rattle.listing.specs.Changes.{Contents, with_rows, settled}
-use Rattle.listing.proofs.All.{settle_again, price_among}
+use Rattle.listing.proofs.All.{settled_more, price_among}
+use Rattle.listing.proofs.Written.{written_sound, written_priced, written_widened}
 use Rattle.listing.proofs.products.Products.set_references.Goals as goal
 
-pub write-requires : goal.write-requires
-write-requires c =
+pub invariant_of-self-clause-sound : goal.invariant_of-self-clause-sound
+invariant_of-self-clause-sound c = written_sound c.loop-n.self c.loop-n.n _ (omega arith) refl
+
+pub invariant_of-self-clause-priced : goal.invariant_of-self-clause-priced
+invariant_of-self-clause-priced c = written_priced c.loop-n.self c.loop-n.n _ (omega arith) (price_among c.args.prices.now c.loop-n.n c.requires.priced c.loop-n-test.true)
+
+pub invariant_of-self-clause-widened : goal.invariant_of-self-clause-widened
+invariant_of-self-clause-widened c =
     let count : c.loop-n.self.count ≡ c.args.self.now.count = ap (λ (x : Contents). x.count) c.loop-n.invariant in
-    let there : c.loop-n.n < c.loop-n.self.count = omega (arith, c.requires.whole, c.loop-n-test.true) in
-    record {
-      there = there;
-      listed = refl;
-      priced = price_among c.args.prices.now c.loop-n.n c.requires.priced c.loop-n-test.true;
-      widened = c.loop-n.self.widened c.loop-n.n there;
-    }
+    written_widened c.loop-n.self c.loop-n.n _ (omega arith) (c.loop-n.self.widened c.loop-n.n (omega arith))
 
 pub loop-n-preserved : goal.loop-n-preserved
-loop-n-preserved c =
-    settle_again c.args.self.now c.loop-n.self c.write.new.self c.args.prices.now c.loop-n.n c.loop-n-test.true c.loop-n.invariant c.write.ensures
+loop-n-preserved c = settled_more c.args.self.now _ c.args.prices.now c.loop-n.n c.loop-n-test.true c.loop-n.invariant
 
 pub returns : goal.returns
 returns c =
