@@ -1,5 +1,5 @@
 // Changes of one product, which leave all others as they are, and of all at once.
-ghost use Rattle.std.specs.Prelude.{◌≡◌, ◌<◌, ◌≤◌, true, length};
+ghost use Rattle.std.specs.Prelude.{◌≡◌, ◌<◌, ◌≤◌, true};
 ghost use Rattle.terms.specs.Checks.{answered, left_by};
 ghost use Rattle.terms.specs.Ranges.{highest_price};
 ghost use Rattle.listing.specs.Changes.{contents, with_product, with_reference, with_frenetic, with_halt, widen_check, without_halts, all_prices, with_settlements, settle_check};
@@ -92,21 +92,12 @@ impl Products {
     pub fn lift(&mut self)
         ensures { contents self.new ≡ without_halts self.old }
     {
+        // by a copy, since a field beside ghost fields is not lent
         let mut rows = self.rows;
         for product in &mut rows[..self.count] {
             product.halted = false;
         }
         self.rows = rows;
-    }
-
-    fn set_references(&mut self, prices: &[u32])
-        requires whole { length prices.now ≡ self.old.count }
-        requires priced { all_prices prices.now ≡ true }
-        ensures { contents self.new ≡ with_settlements self.old prices.now }
-    {
-        for (n, price) in prices.iter().enumerate() {
-            self.rows[n].reference = *price;
-        }
     }
 
     // A settlement price for each product, in the order of their numbers, becomes its reference price.
@@ -120,7 +111,9 @@ impl Products {
         if prices.len() != self.count {
             return Err(Refusal::OutOfRange(Field::Settlements));
         }
-        self.set_references(prices);
+        for (n, price) in prices.iter().enumerate() {
+            self.rows[n].reference = *price;
+        }
         Ok(())
     }
 }

@@ -25,7 +25,9 @@ fn fits_kind(below: &[Listed], kind: Kind) -> bool
     match kind {
         Kind::Future => true,
         Kind::Option {
-            strike, underlying, ..
+            strike,
+            underlying,
+            ..
         } => {
             let on = below.get(underlying as usize);
             on.is_some_and(|entry| entry.kind == Kind::Future) && strike <= Price::HIGHEST

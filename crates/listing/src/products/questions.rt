@@ -36,11 +36,8 @@ impl Products {
     pub fn product(&self, n: u32) -> Result<Product, Refusal>
         ensures { result ≡ answered (listed_check self.now n) (product_in self.now n) }
     {
-        let place = n as usize;
-        if place >= self.count {
-            return Err(Refusal::NotListed(n));
-        }
-        Ok(self.rows[place])
+        let listed = &self.rows[..self.count];
+        listed.get(n as usize).copied().ok_or(Refusal::NotListed(n))
     }
 
     // Whether any product is halted by itself.

@@ -1,4 +1,4 @@
-use Rattle.std.proofs.Common.{rules, ◌≡◌, ◌<◌, ap}
+use Rattle.std.proofs.Common.{ap}
 use Rattle.listing.specs.Changes.{with_rows}
 use Rattle.listing.proofs.All.{lifted_more, lifted_front, lifted_sound, lifted_priced, lifted_widened}
 use Rattle.listing.proofs.products.Products.lift.Goals as goal

@@ -1,7 +1,7 @@
 use Rattle.std.proofs.Common.{◌≡◌, ℕ, ◌<◌, ◌≤◌, [], ◌∷◌, ◌++◌, map, length, take, sym, refl, ap, ◌∙◌, arith, length-set, below_more, rules, tests}
 use Rattle.std.proofs.lemmas.List.{map_more, take_more_set, take_all}
-use Rattle.listing.specs.Entries.{unlisted, listed_at}
-use Rattle.listing.specs.Product.{fresh, product_at, frenetic_fits}
+use Rattle.listing.specs.Entries.{unlisted}
+use Rattle.listing.specs.Product.{fresh, frenetic_fits}
 use Rattle.listing.specs.Ranges.{most_products}
 use Rattle.listing.specs.declared.product.Product.{Product}
 use Rattle.listing.proofs.Faults.{made_at, made_fault}
