@@ -120,7 +120,7 @@ impl fmt::Display for Fault {
             Fault::Duration => "a duration is expected",
             Fault::Surplus => "too many words",
         };
-        write!(f, "{words}")
+        f.write_str(words)
     }
 }
 
