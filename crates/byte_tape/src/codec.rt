@@ -31,12 +31,11 @@ pub fn encode(row: TradeRow) -> [u8; RECORD_BYTES]
     ensures back { decoded result ≡ row }
     ensures law { ComesBack }
 {
-    let numbers = numbers(row);
-    let mut bytes = [0; RECORD_BYTES];
-    for i in 0..12 {
-        bytes[4 * i..4 * i + 4].copy_from_slice(&numbers[i].to_be_bytes());
-    }
-    bytes
+    numbers(row)
+        .map(u32::to_be_bytes)
+        .as_flattened()
+        .try_into()
+        .unwrap()
 }
 
 pub fn decode(bytes: &[u8; RECORD_BYTES]) -> TradeRow
