@@ -31,11 +31,11 @@ pub fn encode(row: TradeRow) -> [u8; RECORD_BYTES]
     ensures back { decoded result ≡ row }
     ensures law { ComesBack }
 {
-    numbers(row)
-        .map(u32::to_be_bytes)
-        .as_flattened()
-        .try_into()
-        .unwrap()
+    let mut bytes = [0; RECORD_BYTES];
+    for (i, number) in numbers(row).iter().enumerate() {
+        bytes[4 * i..4 * i + 4].copy_from_slice(&number.to_be_bytes());
+    }
+    bytes
 }
 
 pub fn decode(bytes: &[u8; RECORD_BYTES]) -> TradeRow

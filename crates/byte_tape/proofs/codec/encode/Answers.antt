@@ -1,29 +1,35 @@
-use Rattle.std.proofs.Common.{◌≡◌, ℕ, ◌^◌, ◌<◌, List, length, get_or, map, All, sym, ap, ◌∙◌, subst, arith, rules, of_calls}
+use Rattle.std.proofs.Common.{◌≡◌, ℕ, ◌+◌, ◌-◌, ◌*◌, ◌^◌, ◌<◌, List, [], ◌++◌, length, get_or, take, All, sym, ap, ◌∙◌, subst, arith, rules}
 use Rattle.byte_tape.proofs.Fours.{comes_back}
 use Rattle.byte_tape.proofs.codec.encode.Goals as goal
 use Rattle.byte_tape.specs.Bytes.{numbers, four, encoded, decoded}
-use Rattle.std.proofs.lemmas.List.{same_lists, length-map, get_or-map}
+use Rattle.std.proofs.lemmas.List.{take_all, take_more, flat_map_more, places}
+use Rattle.std.proofs.lemmas.Slice.{take-put_mid}
 use Rattle.std.specs.List.{flat_map}
-use Rattle.std.specs.Array.{IsWholeChunk}
-use Rattle.std.specs.Result.{MatchResult}
 
-fours : (c : goal.After-unwrap) → c.map.result ≡ map four c.numbers.result
-fours c =
+pub loop-i-preserved : goal.loop-i-preserved
+loop-i-preserved c =
+    let bytes = c.loop-i.bytes in
+    let i = c.loop-i.i in
     let ns = c.numbers.result in
-    let many : length ns ≡ 12 = ap length c.numbers.ensures.value in
-    let long = c.map.ensures.items.long in
-    same_lists c.map.result (map four ns) (omega (arith, long, many, length-map ns four))
-    (λ k d lt.
-    let l : k < 12 = omega (arith, long) in
-    let m : k < length ns = omega (arith, many) in
-    let h = c.map.ensures.items.at k 0 d l in
-    let each : get_or c.map.result k d ≡ four (get_or ns k 0) = search (rules, of_calls) in
-    each ∙ sym (get_or-map four ns k 0 d m))
+    let part = c.copy_from_slice.new.self in
+    let is : part ≡ four (get_or ns i 0) = c.copy_from_slice.ensures.after ∙ c.to_be_bytes.ensures in
+    let long : length part ≡ 4 = ap length is in
+    let many : length ns ≡ 12 = ap length c.numbers.ensures.value in (
+      search (rules, places),
+      (take-put_mid (4 * i) (4 * i + 4 - 4 * i) bytes part (4 * (i + 1)) (omega arith) (omega arith)
+          ∙ ap (λ (xs : List ℕ). xs ++ part) c.loop-i.invariant.1
+          ∙ ap (λ (xs : List ℕ). flat_map four (take i ns) ++ xs) is
+          ∙ flat_map_more four [] (take i ns) (get_or ns i 0)
+          ∙ ap (flat_map four) (sym (take_more ns i 0 (omega arith)))),
+    )
 
-all : (c : goal.After-unwrap) → c.unwrap.result ≡ encoded c.args.row
+all : (c : goal.After-loop-i) → c.loop-i.bytes ≡ encoded c.args.row
 all c =
-    let whole = rw c.unwrap.ensures at c.try_into.ensures.1 in
-    whole.same ∙ c.as_flattened.ensures.value ∙ ap (flat_map (λ xs. xs)) (fours c ∙ ap (map four) c.numbers.ensures.value)
+    let bytes = c.loop-i.bytes in
+    let ns = c.numbers.result in
+    let i = c.loop-i.i in
+    let many : length ns ≡ 12 = ap length c.numbers.ensures.value in
+    sym (take_all (4 * i) bytes (omega arith)) ∙ c.loop-i.invariant.1 ∙ ap (flat_map four) (take_all i ns (omega arith) ∙ c.numbers.ensures.value)
 
 pub returns-clause-value : goal.returns-clause-value
 returns-clause-value c = all c
