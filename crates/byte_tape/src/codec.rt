@@ -31,10 +31,9 @@ pub fn encode(row: TradeRow) -> [u8; RECORD_BYTES]
     ensures back { decoded result ≡ row }
     ensures law { ComesBack }
 {
-    let numbers = numbers(row);
     let mut bytes = [0; RECORD_BYTES];
-    for i in 0..12 {
-        bytes[4 * i..4 * i + 4].copy_from_slice(&numbers[i].to_be_bytes());
+    for (i, number) in numbers(row).iter().enumerate() {
+        bytes[4 * i..4 * i + 4].copy_from_slice(&number.to_be_bytes());
     }
     bytes
 }

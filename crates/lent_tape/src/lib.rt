@@ -113,14 +113,11 @@ impl<P: Places> Tape for LentTape<P> {
 
     fn mark(&mut self, n: u32, mark: Mark) -> Result<(), NoRecord> {
         let place = self.place(n)?;
-        let row = self.places.get(place).unwrap();
-        self.places.set(
-            place,
-            TradeRow {
-                mark: mark.into(),
-                ..row
-            },
-        );
+        let marked = TradeRow {
+            mark: mark.into(),
+            ..self.places.get(place).unwrap()
+        };
+        self.places.set(place, marked);
         Ok(())
     }
 }

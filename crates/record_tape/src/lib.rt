@@ -27,7 +27,7 @@ impl Places for Records<'_> {
     }
 
     fn set(&mut self, place: usize, row: TradeRow) {
-        if place < self.0.len() {
+        if place < self.size() {
             self.0[place] = row;
         }
     }

@@ -10,11 +10,11 @@ pub loop-i-preserved : goal.loop-i-preserved
 loop-i-preserved c =
     let bytes = c.loop-i.bytes in
     let i = c.loop-i.i in
-    let ns = c.numbers-numbers.result in
+    let ns = c.numbers.result in
     let part = c.copy_from_slice.new.self in
     let is : part ≡ four (get_or ns i 0) = c.copy_from_slice.ensures.after ∙ c.to_be_bytes.ensures in
     let long : length part ≡ 4 = ap length is in
-    let many : length ns ≡ 12 = ap length c.numbers-numbers.ensures.value in (
+    let many : length ns ≡ 12 = ap length c.numbers.ensures.value in (
       search (rules, places),
       (take-put_mid (4 * i) (4 * i + 4 - 4 * i) bytes part (4 * (i + 1)) (omega arith) (omega arith)
           ∙ ap (λ (xs : List ℕ). xs ++ part) c.loop-i.invariant.1
@@ -23,13 +23,21 @@ loop-i-preserved c =
           ∙ ap (flat_map four) (sym (take_more ns i 0 (omega arith)))),
     )
 
-pub returns : goal.returns
-returns c =
+all : (c : goal.After-loop-i) → c.loop-i.bytes ≡ encoded c.args.row
+all c =
     let bytes = c.loop-i.bytes in
-    let ns = c.numbers-numbers.result in
+    let ns = c.numbers.result in
     let i = c.loop-i.i in
-    let many : length ns ≡ 12 = ap length c.numbers-numbers.ensures.value in
-    let all : bytes ≡ encoded c.args.row =
-    sym (take_all (4 * i) bytes (omega arith)) ∙ c.loop-i.invariant.1 ∙ ap (flat_map four) (take_all i ns (omega arith) ∙ c.numbers-numbers.ensures.value) in
-    let fit : All (λ n. n < 2 ^ 32) (numbers c.args.row) = subst (All (λ n. n < 2 ^ 32)) c.numbers-numbers.ensures.value c.numbers-numbers.ensures.fit in
-    record { value = all; back = ap decoded all ∙ comes_back c.args.row fit; law = comes_back }
+    let many : length ns ≡ 12 = ap length c.numbers.ensures.value in
+    sym (take_all (4 * i) bytes (omega arith)) ∙ c.loop-i.invariant.1 ∙ ap (flat_map four) (take_all i ns (omega arith) ∙ c.numbers.ensures.value)
+
+pub returns-clause-value : goal.returns-clause-value
+returns-clause-value c = all c
+
+pub returns-clause-back : goal.returns-clause-back
+returns-clause-back c =
+    let fit : All (λ n. n < 2 ^ 32) (numbers c.args.row) = subst (All (λ n. n < 2 ^ 32)) c.numbers.ensures.value c.numbers.ensures.fit in
+    ap decoded (all c) ∙ comes_back c.args.row fit
+
+pub returns-clause-law : goal.returns-clause-law
+returns-clause-law c = comes_back
