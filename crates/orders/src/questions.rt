@@ -1,8 +1,8 @@
 // What is asked of the table: best prices, an order by its number, a free place.
-ghost use Rattle.std.specs.Prelude.{◌≡◌, ◌<◌, Bool, not, length, IfSome};
+ghost use Rattle.std.specs.Prelude.{◌≡◌, ◌<◌, length, IfSome};
 ghost use Rattle.std.specs.Option.{option_map};
 ghost use Rattle.orders.specs.Queue.{slot_of};
-ghost use Rattle.orders.specs.Questions.{best_price, best_buy, best_sell, best_facing, crosses, order_numbered, stands, Stands, FreePlace};
+ghost use Rattle.orders.specs.Questions.{best_price, best_buy, best_sell, best_facing, crosses, order_numbered, Stands, FreePlace};
 
 use crate::full::TableFull;
 use crate::order::{Entry, Order};

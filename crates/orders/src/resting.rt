@@ -1,6 +1,6 @@
 // Writing to the table: an order comes to rest, changes, or leaves.
-ghost use Rattle.std.specs.Prelude.{◌≡◌, ℕ, ◌≤◌, Bool, if◌then◌else◌, slice_set};
-ghost use Rattle.orders.specs.Closes.{left_at, leaves, expired, removed};
+ghost use Rattle.std.specs.Prelude.{◌≡◌, slice_set};
+ghost use Rattle.orders.specs.Closes.{leaves, expired, removed};
 ghost use Rattle.orders.specs.Orders.{row_of};
 ghost use Rattle.orders.specs.Resting.{ComesToRest};
 ghost use Rattle.orders.specs.Rows.{free};

@@ -1,5 +1,5 @@
 // The first order of a queue, and the next one behind another.
-ghost use Rattle.std.specs.Prelude.{◌≡◌, ℕ, ◌<◌, min, ◌&&◌, length, IfSome, ◌==◌};
+ghost use Rattle.std.specs.Prelude.{◌≡◌, ◌<◌, min, ◌&&◌, length, IfSome, ◌==◌};
 ghost use Rattle.std.specs.Option.{option_map};
 ghost use Rattle.orders.specs.Queue.{before, past, wanted, offer, behind, head, queue, slot, slot_of, counted, most_places};
 ghost use Rattle.orders.specs.Rows.{side_code};
