@@ -1,5 +1,6 @@
 -- What changes for a product. Assumes nothing.
-use Rattle.std.specs.Prelude.{ℕ, Bool, true, false, ◌&&◌, List, [], ◌∷◌, ◌++◌, map, length, take, drop, Option, ◌==◌, nat_le, slice_set}
+use Rattle.std.specs.Prelude.{ℕ, Bool, false, cond, List, [], ◌∷◌, ◌++◌, map, length, take, drop, Some, None, Option, ◌==◌, nat_le, slice_set}
+use Rattle.std.specs.List.{list_all}
 use Rattle.terms.specs.Checks.{unless, earliest}
 use Rattle.terms.specs.Ranges.{highest_price}
 use Rattle.terms.specs.declared.field.Field.TheVariants.{FreneticTicks, Settlements, Price as the_price}
@@ -32,9 +33,13 @@ abbrev pub with_reference : ℕ → ℕ → Product → Product
 with_reference price records p =
     record { listed = p.listed; frenetic = p.frenetic; reference = price; halted = p.halted; adjusted = records }
 
+-- what a number of a call sets: 0 goes back to the listed daily ticks
+abbrev pub frenetic_of : ℕ → Option ℕ
+frenetic_of ticks = cond (ticks == 0) None (Some ticks)
+
 abbrev pub with_frenetic : ℕ → Product → Product
 with_frenetic ticks p =
-    record { listed = p.listed; frenetic = ticks; reference = p.reference; halted = p.halted; adjusted = p.adjusted }
+    record { listed = p.listed; frenetic = frenetic_of ticks; reference = p.reference; halted = p.halted; adjusted = p.adjusted }
 
 abbrev pub with_halt : Bool → Product → Product
 with_halt halted p =
@@ -42,7 +47,7 @@ with_halt halted p =
 
 -- ticks that do not fit get 8 with field 5
 abbrev pub frenetic_check : Product → ℕ → Option Refusal
-frenetic_check p ticks = unless (frenetic_fits p.listed.daily ticks) (OutOfRange FreneticTicks)
+frenetic_check p ticks = unless (frenetic_fits p.listed.daily (frenetic_of ticks)) (OutOfRange FreneticTicks)
 
 abbrev pub widen_check : Products → ℕ → ℕ → Option Refusal
 widen_check ps n ticks = earliest (listed_check ps n ∷ frenetic_check (product_in ps n) ticks ∷ [])
@@ -67,8 +72,7 @@ abbrev pub with_settlements : Products → List ℕ → Contents
 with_settlements ps prices = with_rows ps (settled prices ps.rows)
 
 abbrev pub all_prices : List ℕ → Bool
-all_prices [] = true
-all_prices (price ∷ prices) = nat_le price highest_price && all_prices prices
+all_prices prices = list_all (λ price. nat_le price highest_price) prices
 
 -- a number that is no price gets 8 with field 1, a wrong count 8 with field 6
 abbrev pub settle_check : Products → List ℕ → Option Refusal

@@ -1,5 +1,6 @@
 -- What is asked of the products. Assumes nothing.
-use Rattle.std.specs.Prelude.{ℕ, Bool, false, ◌||◌, List, [], ◌∷◌, Option, nat_lt}
+use Rattle.std.specs.Prelude.{ℕ, Bool, List, Option, nat_lt}
+use Rattle.std.specs.List.{list_any}
 use Rattle.limits.specs.Ranges.{tradeable_range}
 use Rattle.limits.specs.Sweeps.{anchor_price, sweep_price}
 use Rattle.limits.specs.declared.range.Range.{Range}
@@ -29,5 +30,4 @@ abbrev pub sweep_of : Side → Option Price → Product → Price
 sweep_of side best p = sweep_price side (anchor_price best (price_at p.reference)) p.listed.sweep
 
 abbrev pub any_halted : List Product → Bool
-any_halted [] = false
-any_halted (p ∷ rest) = p.halted || any_halted rest
+any_halted products = list_any (λ p. p.halted) products

@@ -1,7 +1,7 @@
 // One entry of a listing, as plain numbers, whether it keeps its rules or not.
 use crate::kind::Kind;
 
-#[derive(Clone, Copy)]
+#[derive(Clone, Copy, PartialEq, Eq, Debug)]
 pub struct Listed {
     pub kind: Kind,
     // all three in ticks

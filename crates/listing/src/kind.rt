@@ -1,7 +1,7 @@
 // What is listed: a future, or an option on a future.
 use terms::right::Right;
 
-#[derive(Clone, Copy)]
+#[derive(Clone, Copy, PartialEq, Eq, Debug)]
 pub enum Kind {
     Future,
     Option {

@@ -7,13 +7,13 @@ ghost use Rattle.listing.specs.Ranges.{most_products, longest_limit};
 
 use crate::product::Product;
 
-pub mod changes;
-pub mod makes;
-pub mod questions;
+mod changes;
+mod makes;
+mod questions;
 
-// What is above the count is not part of the listing.
-#[derive(Clone, Copy)]
+#[derive(Clone, Copy, PartialEq, Eq, Debug)]
 pub struct Products {
+    // what is above the count is not part of the listing: a buffer, since no heap is at hand and an ArrayVec is not Copy
     rows: [Product; 32],
     count: usize,
     // in days

@@ -1,5 +1,5 @@
 // Changes of one product, which leave all others as they are, and of all at once.
-ghost use Rattle.std.specs.Prelude.{◌≡◌, ◌<◌, ◌≤◌, true, length};
+ghost use Rattle.std.specs.Prelude.{◌≡◌, ◌<◌, ◌≤◌, true};
 ghost use Rattle.terms.specs.Checks.{answered, left_by};
 ghost use Rattle.terms.specs.Ranges.{highest_price};
 ghost use Rattle.listing.specs.Changes.{contents, with_product, with_reference, with_frenetic, with_halt, widen_check, without_halts, all_prices, with_settlements, settle_check};
@@ -13,21 +13,16 @@ use terms::field::Field;
 use terms::price::Price;
 use terms::refusal::Refusal;
 
-fn fits_frenetic(daily: u32, ticks: u32) -> bool
-    ensures { result ≡ frenetic_fits daily ticks }
+fn fits_frenetic(daily: u32, frenetic: Option<u32>) -> bool
+    ensures { result ≡ frenetic_fits daily frenetic }
 {
-    (ticks == 0) | ((daily < ticks) & (ticks <= Listed::WIDEST_DAILY))
+    frenetic.is_none_or(|ticks| daily < ticks && ticks <= Listed::WIDEST_DAILY)
 }
 
 fn are_prices(numbers: &[u32]) -> bool
     ensures { result ≡ all_prices numbers.now }
 {
-    for n in numbers {
-        if *n > Price::HIGHEST {
-            return false;
-        }
-    }
-    true
+    numbers.iter().all(|n| *n <= Price::HIGHEST)
 }
 
 impl Products {
@@ -64,13 +59,14 @@ impl Products {
         ensures after { contents self.new ≡ left_by (widen_check self.old n ticks) (contents self.old) (with_product self.old n (with_frenetic ticks (product_in self.old n))) }
     {
         let product = self.product(n)?;
-        if !fits_frenetic(product.listed.daily, ticks) {
+        let frenetic = (ticks != 0).then_some(ticks);
+        if !fits_frenetic(product.listed.daily, frenetic) {
             return Err(Refusal::OutOfRange(Field::FreneticTicks));
         }
         self.write(
             n,
             Product {
-                frenetic: ticks,
+                frenetic,
                 ..product
             },
         );
@@ -96,33 +92,12 @@ impl Products {
     pub fn lift(&mut self)
         ensures { contents self.new ≡ without_halts self.old }
     {
-        for n in 0..self.count {
-            let product = self.rows[n];
-            self.write(
-                n as u32,
-                Product {
-                    halted: false,
-                    ..product
-                },
-            );
+        // by a copy, since a field beside ghost fields is not lent
+        let mut rows = self.rows;
+        for product in &mut rows[..self.count] {
+            product.halted = false;
         }
-    }
-
-    fn set_references(&mut self, prices: &[u32])
-        requires whole { length prices.now ≡ self.old.count }
-        requires priced { all_prices prices.now ≡ true }
-        ensures { contents self.new ≡ with_settlements self.old prices.now }
-    {
-        for n in 0..prices.len() {
-            let product = self.rows[n];
-            self.write(
-                n as u32,
-                Product {
-                    reference: prices[n],
-                    ..product
-                },
-            );
-        }
+        self.rows = rows;
     }
 
     // A settlement price for each product, in the order of their numbers, becomes its reference price.
@@ -136,7 +111,9 @@ impl Products {
         if prices.len() != self.count {
             return Err(Refusal::OutOfRange(Field::Settlements));
         }
-        self.set_references(prices);
+        for (n, price) in prices.iter().enumerate() {
+            self.rows[n].reference = *price;
+        }
         Ok(())
     }
 }

@@ -36,23 +36,15 @@ impl Products {
     pub fn product(&self, n: u32) -> Result<Product, Refusal>
         ensures { result ≡ answered (listed_check self.now n) (product_in self.now n) }
     {
-        let place = n as usize;
-        if place >= self.count {
-            return Err(Refusal::NotListed(n));
-        }
-        Ok(self.rows[place])
+        let listed = &self.rows[..self.count];
+        listed.get(n as usize).copied().ok_or(Refusal::NotListed(n))
     }
 
     // Whether any product is halted by itself.
     pub fn is_any_halted(&self) -> bool
         ensures { result ≡ any_halted (products_of self.now) }
     {
-        for n in 0..self.count {
-            if self.rows[n].halted {
-                return true;
-            }
-        }
-        false
+        self.rows[..self.count].iter().any(|p| p.halted)
     }
 
     // The lowest and the highest price at which a product may trade.

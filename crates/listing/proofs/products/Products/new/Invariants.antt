@@ -4,5 +4,8 @@ use Rattle.listing.specs.Product.{fresh}
 use Rattle.listing.proofs.products.Products.new.Given as goal
 
 abbrev pub invariant-loop-n : goal.invariant-loop-n
-invariant-loop-n l =
-    SoundBelow l.listing l.n × (take l.n l.rows ≡ map fresh (take l.n l.listing)) × (length l.rows ≡ 32)
+invariant-loop-n l = record {
+  sound : SoundBelow l.listing l.n;
+  made : take l.n l.rows ≡ map fresh (take l.n l.listing);
+  whole : length l.rows ≡ 32;
+}
