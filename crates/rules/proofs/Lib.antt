@@ -1,3 +1,2 @@
 pub mod Numbering
 pub mod Prices
-pub mod Products

@@ -1,5 +1,5 @@
 // What a resting order is to become, in plain numbers.
-#[derive(Clone, Copy)]
+#[derive(Clone, Copy, PartialEq, Eq, Debug)]
 pub struct Amendment {
     pub participant: u32,
     // its number

@@ -2,7 +2,7 @@
 use terms::duration::Duration;
 use terms::side::Side;
 
-#[derive(Clone, Copy)]
+#[derive(Clone, Copy, PartialEq, Eq, Debug)]
 pub struct NewOrder {
     pub product: u32,
     pub side: Side,

@@ -15,11 +15,7 @@ pub fn own_order(
 ) -> Result<Entry, Refusal>
     ensures { OwnOrder products table.now participant number result }
 {
-    let Some(e) = find(table, products, number) else {
-        return Err(Refusal::NotResting(number));
-    };
-    if e.order.participant.number() != participant {
-        return Err(Refusal::NotResting(number));
-    }
-    Ok(e)
+    find(table, products, number)
+        .filter(|e| e.order.participant.number() == participant)
+        .ok_or(Refusal::NotResting(number))
 }

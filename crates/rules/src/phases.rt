@@ -8,35 +8,17 @@ use terms::phase::Phase;
 pub fn ends_day(phase: Phase) -> bool
     ensures { result ≡ ends_day phase }
 {
-    match phase {
-        Phase::DaySession => true,
-        Phase::Closed => false,
-        Phase::BeforeNight => false,
-        Phase::NightSession => false,
-        Phase::BeforeDay => false,
-    }
+    phase == Phase::DaySession
 }
 
 pub fn in_session(phase: Phase) -> bool
     ensures { result ≡ in_session phase }
 {
-    match phase {
-        Phase::NightSession => true,
-        Phase::DaySession => true,
-        Phase::Closed => false,
-        Phase::BeforeNight => false,
-        Phase::BeforeDay => false,
-    }
+    matches!(phase, Phase::NightSession | Phase::DaySession)
 }
 
 pub fn is_closed(phase: Phase) -> bool
     ensures { result ≡ is_closed phase }
 {
-    match phase {
-        Phase::Closed => true,
-        Phase::BeforeNight => false,
-        Phase::NightSession => false,
-        Phase::BeforeDay => false,
-        Phase::DaySession => false,
-    }
+    phase == Phase::Closed
 }

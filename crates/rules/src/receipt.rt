@@ -1,7 +1,7 @@
 // What an entered or amended order is answered.
 use terms::halt::Halt;
 
-#[derive(Clone, Copy)]
+#[derive(Clone, Copy, PartialEq, Eq, Debug)]
 pub struct Receipt {
     pub number: u32,
     pub traded: u32,

@@ -7,7 +7,7 @@ use crate::state::State;
 use terms::phase::Phase;
 use terms::refusal::Refusal;
 
-#[derive(Clone, Copy)]
+#[derive(Clone, Copy, PartialEq, Eq, Debug)]
 pub enum Turn {
     Roll,
     Open,
