@@ -1,7 +1,7 @@
 -- The sweep price and the tradeable range, in the laws' own words. Assumes nothing.
-use Rattle.std.proofs.Common.{◌≡◌, ℕ, ◌+◌, ◌-◌, ◌≤◌, true, false, not, eqb, leb, List, [], ◌∷◌, Some, None, Option, sym, refl, ap, subst, inl, inr, arith}
-use Rattle.std.specs.Option.{option_map}
-use Rattle.std.proofs.lemmas.Bool.{cond_both, and_parts, leb-true, ltb-false, eqb-true, eqb-false, not-true}
+use Rattle.std.proofs.Common.{◌≡◌, ℕ, ◌+◌, ◌-◌, ◌≤◌, true, false, not, leb, List, [], ◌∷◌, Some, None, Option, sym, refl, ap, subst, inl, inr, arith}
+use Rattle.std.specs.Option.{option_map, unwrap_or}
+use Rattle.std.proofs.lemmas.Bool.{and_parts, leb-true, ltb-false, not-true}
 use Rattle.limits.specs.Ranges.{tradeable}
 use Rattle.limits.specs.Sweeps.{anchor_price, beyond}
 use Rattle.listing.specs.Product.{ticks_in_force}
@@ -121,10 +121,11 @@ own_price w o (Some price) l = refl
 -- the tradeable range
 
 pub ticks_in_force_are : (p : Product) → InForce p (ticks_in_force p)
-ticks_in_force_are p =
-    cond_both (eqb p.frenetic 0) p.listed.daily p.frenetic (InForce p)
-    (λ e. inl (eqb-true p.frenetic 0 e, refl))
-    (λ e. inr (let n = eqb-false p.frenetic 0 e in omega (arith, n), refl))
+ticks_in_force_are p = go p.frenetic refl
+  where
+    go : (frenetic : Option ℕ) → p.frenetic ≡ frenetic → InForce p (unwrap_or frenetic p.listed.daily)
+    go None e = inl (e, refl)
+    go (Some ticks) e = inr e
 
 pub in_range : (w : World) (n price : ℕ) → (product_of w n).reference ≤ 1000000 →
     tradeable (range_in w n).low.ticks (range_in w n).high.ticks price ≡ true →

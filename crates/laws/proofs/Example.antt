@@ -1,5 +1,5 @@
 -- A history that trades, is asked about and is cancelled: the laws are not about nothing. Assumes nothing.
-use Rattle.std.proofs.Common.{ℕ, zero, suc, false, List, [], ◌∷◌, Some, Ok, refl, arith, lit<}
+use Rattle.std.proofs.Common.{ℕ, zero, suc, false, List, [], ◌∷◌, Some, None, Ok, refl, arith, lit<}
 use Rattle.established.specs.Corrections.{corrected_in}
 use Rattle.established.specs.Established.{established_from}
 use Rattle.rules.specs.Worth.{established, established_spot, established_future}
@@ -31,7 +31,7 @@ the_future = record { kind = Future; sweep = 1000; daily = 100000; no_bust = 5 }
 abbrev future_at : ℕ → Contents
 future_at reference =
     record {
-      rows = record { listed = the_future; frenetic = 0; reference = reference; halted = false; adjusted = 0 } ∷ [];
+      rows = record { listed = the_future; frenetic = None; reference = reference; halted = false; adjusted = 0 } ∷ [];
       count = 1;
       limit = 30;
     }

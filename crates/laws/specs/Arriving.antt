@@ -23,7 +23,7 @@ pub record Open (w : World) (n : ℕ) : Type 0 where
 
 -- the daily ticks in force: the frenetic ones while they are set, else those listed
 abbrev pub InForce : Product → ℕ → Type 0
-InForce p ticks = ((p.frenetic ≡ 0) × (ticks ≡ p.listed.daily)) ⊎ ((0 < p.frenetic) × (ticks ≡ p.frenetic))
+InForce p ticks = ((p.frenetic ≡ None) × (ticks ≡ p.listed.daily)) ⊎ (p.frenetic ≡ Some ticks)
 
 -- the price that a sweep is counted from: the best that waits on the other side, else the reference price
 pub data Anchor (w : World) (side : Side) (n : ℕ) : ℕ → Type 0 where
