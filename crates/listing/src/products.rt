@@ -14,7 +14,7 @@ mod questions;
 #[derive(Clone, Copy, PartialEq, Eq, Debug)]
 pub struct Products {
     // what is above the count is not part of the listing: a buffer, since no heap is at hand and an ArrayVec is not Copy
-    rows: [Product; 32],
+    rows: [Product; Products::MOST],
     count: usize,
     // in days
     limit: u32,

@@ -52,7 +52,8 @@ impl Products {
         if !(1..=Products::LONGEST_LIMIT).contains(&day_limit) {
             return Err(Malformed::DayLimit);
         }
-        let mut rows = [Product::fresh(listing[0]); 32];
+        // those above the count stand as the first
+        let mut rows = [Product::fresh(listing[0]); Products::MOST];
         for (n, entry) in listing.iter().enumerate() {
             if is_at_fault(listing, n) {
                 return Err(Malformed::Entry(n as u32));
