@@ -1,4 +1,5 @@
 pub mod Walks
+pub mod Coming
 pub mod Sweeps
 pub mod Laws
 pub mod Entries
