@@ -3,3 +3,4 @@ pub mod Coming
 pub mod Sweeps
 pub mod Laws
 pub mod Entries
+pub mod Receipts

@@ -26,3 +26,21 @@ pub struct Receipt<H> {
     pub trades: u32,
     pub halt: H,
 }
+
+impl<H: Copy> Receipt<H> {
+    ghost use Rattle.std.specs.Prelude.{◌≡◌};
+    ghost use Rattle.book.specs.Receipts.{with_halt};
+
+    // The same answer with another word on the halt.
+    pub fn with_halt<K>(self, halt: K) -> Receipt<K>
+        ensures { result ≡ with_halt self halt }
+    {
+        Receipt {
+            number: self.number,
+            traded: self.traded,
+            rest: self.rest,
+            trades: self.trades,
+            halt,
+        }
+    }
+}
