@@ -1,5 +1,5 @@
 -- A walk neither makes nor loses a lot. Assumes nothing.
-use Rattle.std.proofs.Common.{◌≡◌, ℕ, ◌+◌, ◌-◌, min, Bool, true, false, not, ◌&&◌, eqb, List, [], ◌∷◌, ◌++◌, map, length, is_some, Some, None, Option, sym, refl, ap, ◌∙◌, arith}
+use Rattle.std.proofs.Common.{◌≡◌, ℕ, ◌+◌, ◌-◌, min, Bool, true, false, cond, not, ◌&&◌, eqb, List, [], ◌∷◌, ◌++◌, map, length, is_some, Some, None, Option, sym, refl, ap, ◌∙◌, arith}
 use Rattle.std.proofs.lemmas.List.{append-nil}
 use Rattle.std.proofs.lemmas.List.Sums.{sum_by-cons}
 use Rattle.std.proofs.lemmas.Bool.{cond_both, ne_eqb}
@@ -9,7 +9,7 @@ use Rattle.orders.specs.declared.row.OrderRow.{OrderRow}
 use Rattle.tape.specs.declared.row.TradeRow.{TradeRow}
 use Rattle.terms.specs.Checked.{lots_left}
 use Rattle.terms.specs.declared.quantity.Quantity.{Quantity}
-use Rattle.book.specs.Sweeps.{due, lots_filled, takes, Made}
+use Rattle.book.specs.Sweeps.{due, killed, lots_filled, takes, Made}
 use Rattle.book.specs.Walks.{Fill, Walk, stop, fill_of, fill_then, walk, filled, trade_by}
 use Rattle.book.specs.declared.arriving.Arriving.{Arriving}
 use Rattle.book.specs.declared.outcome.Swept.{Swept}
@@ -37,9 +37,13 @@ pub some_left : (o : Option Quantity) → is_some o ≡ not (eqb (lots_left o) 0
 some_left None = refl
 some_left (Some q) = rw (ne_eqb q.lots 0 (λ z. omega (arith, q.some)))
 
--- an order that need not trade whole, or does, is not killed
-pub not_killed : (whole : Bool) (w : Walk) (rest : Option Quantity) → (whole && is_some rest) ≡ false → lots_left rest ≡ w.rest → due whole w ≡ w
-not_killed whole w rest h e = rw (sym (ap (λ (n : ℕ). whole && not (eqb n 0)) e) ∙ ap (λ (b : Bool). whole && b) (sym (some_left rest)) ∙ h)
+-- a walk with fills was not killed
+pub not_killed : (whole : Bool) (w : Walk) (trades : ℕ) → trades ≡ length (due whole w).fills → (trades ≡ 0 → ⊥) → due whole w ≡ w
+not_killed whole w trades e n = go (whole && not (eqb w.rest 0)) refl
+  where
+    go : (b : Bool) → (whole && not (eqb w.rest 0)) ≡ b → due whole w ≡ w
+    go true h = absurd (n (e ∙ ap length (ap (λ b. (cond b killed w).fills) h)))
+    go false h = ap (λ b. cond b killed w) h
 
 pub no_fills : (fills : List Fill) → length fills ≡ 0 → fills ≡ []
 no_fills [] h = refl
@@ -47,7 +51,7 @@ no_fills (f ∷ fills) h = absurd (let z : ⊥ = omega arith in z)
 
 module _ {T : Type 0} (records : T → List TradeRow) (space : T → ℕ) (code : ℕ) (a : Arriving) (w : Walk) (table : List OrderRow) (tape : T) (answer : Swept) where
   -- a walk without a fill leaves everything as it was
-  pub made_none : takes (space tape) (records tape) a.time answer.trades ≡ true → answer.trades ≡ 0 → answer.trades ≡ length w.fills → answer.traded ≡ 0 → lots_left answer.rest ≡ w.rest → answer.halted ≡ w.halted → Made records space code a w table tape answer table tape
+  pub made_none : takes (space tape) (records tape) a.order.time answer.trades ≡ true → answer.trades ≡ 0 → answer.trades ≡ length w.fills → answer.traded ≡ 0 → lots_left answer.rest ≡ w.rest → answer.halted ≡ w.halted → Made records space code a w table tape answer table tape
   made_none fits none trades traded rest halted =
       let empty = no_fills w.fills (sym trades ∙ none) in
       record {
@@ -60,6 +64,6 @@ module _ {T : Type 0} (records : T → List TradeRow) (space : T → ℕ) (code 
         halted = halted;
       }
 
-  pub made_run : (q : ℕ) (table' : List OrderRow) (tape' : T) → Conserves q w → takes (space tape) (records tape) a.time (length w.fills) ≡ true → table' ≡ filled w.fills table → records tape' ≡ records tape ++ map (trade_by code a) w.fills → answer.traded ≡ q - lots_left answer.rest → lots_left answer.rest ≡ w.rest → answer.trades ≡ length w.fills → answer.halted ≡ w.halted → Made records space code a w table tape answer table' tape'
+  pub made_run : (q : ℕ) (table' : List OrderRow) (tape' : T) → Conserves q w → takes (space tape) (records tape) a.order.time (length w.fills) ≡ true → table' ≡ filled w.fills table → records tape' ≡ records tape ++ map (trade_by code a) w.fills → answer.traded ≡ q - lots_left answer.rest → lots_left answer.rest ≡ w.rest → answer.trades ≡ length w.fills → answer.halted ≡ w.halted → Made records space code a w table tape answer table' tape'
   made_run q table' tape' conserves fits reduced written traded rest trades halted =
       record { fits = fits; reduced = reduced; written = written; traded = omega (arith, conserves, traded, rest); rest = rest; trades = trades; halted = halted }

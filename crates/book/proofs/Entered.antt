@@ -10,7 +10,8 @@ use Rattle.orders.specs.declared.row.OrderRow.{OrderRow}
 use Rattle.terms.specs.Checks.{unless, earliest}
 use Rattle.terms.specs.declared.refusal.Refusal.{Refusal}
 use Rattle.terms.specs.declared.refusal.Refusal.TheVariants.{NotListed, TableFull, TapeFull, Exhausted}
-use Rattle.book.specs.Entries.{any_free, last_stamp}
+use Rattle.terms.specs.Stamps.{last_stamp}
+use Rattle.book.specs.Entries.{any_free}
 
 free_some : (products : ℕ) (rows : List OrderRow) (i : ℕ) → i < length rows → stands products (get_or rows i free) ≡ false → any_free products rows ≡ true
 free_some products [] i l h = absurd (let z : ⊥ = omega arith in z)

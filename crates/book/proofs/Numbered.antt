@@ -1,46 +1,37 @@
 -- An incoming order under its number. Assumes nothing.
-use Rattle.std.proofs.Common.{◌≡◌, ℕ, ◌+◌, ◌<◌, max, Bool, true, false, cond, not, eqb, List, refl, ap, ◌∙◌, subst, arith}
-use Rattle.std.proofs.lemmas.Bool.{eqb-true}
+use Rattle.std.proofs.Common.{◌≡◌, ℕ, ◌+◌, ◌<◌, ◌≤◌, Bool, true, false, cond, not, eqb, ltb, List, Some, None, refl, subst, arith}
+use Rattle.std.proofs.lemmas.Bool.{eqb-true, ltb-true, ltb-false}
 use Rattle.limits.specs.declared.range.Range.{Range}
 use Rattle.orders.specs.declared.row.OrderRow.{OrderRow}
-use Rattle.tape.specs.Ranges.{last_product, widest_no_bust}
-use Rattle.terms.proofs.Checked.{above, below}
 use Rattle.terms.specs.Durations.{may_rest}
-use Rattle.book.specs.Entries.{arriving_as, planned, some_number}
+use Rattle.terms.specs.Stamps.{last_stamp, stamp_at, stamp_after}
+use Rattle.terms.specs.declared.stamp.Stamp.{Stamp}
+use Rattle.book.specs.Entries.{arriving_as, planned}
 use Rattle.book.specs.Sweeps.{due, killed}
 use Rattle.book.specs.Walks.{Walk, matching}
 use Rattle.book.specs.declared.arriving.Arriving.{Arriving}
 use Rattle.book.specs.declared.incoming.Incoming.{Incoming}
 
-pub arriving_is : (o : Incoming) (n : ℕ) (p : Arriving) → p.product ≡ o.product → p.number ≡ max n 1 → p.participant ≡ o.participant → p.limit ≡ o.limit → p.quantity ≡ o.quantity → p.time ≡ o.time → p.day ≡ o.day → p.established ≡ o.established → p.no_bust ≡ o.no_bust → p ≡ arriving_as o n
-arriving_is o n p product number participant limit quantity time day established narrow =
-    λ i. record {
-      product = product i;
-      number = number i;
-      participant = participant i;
-      limit = limit i;
-      quantity = quantity i;
-      time = time i;
-      day = day i;
-      established = established i;
-      no_bust = narrow i;
-      listed = below product last_product p.listed o.listed i;
-      numbered = above number 1 p.numbered (some_number n) i;
-      narrow = below narrow widest_no_bust p.narrow o.narrow i;
-    }
+-- a stamp is left exactly below the last one
+pub given_next : (last : ℕ) (s : Stamp) → Some s ≡ stamp_after last → (s ≡ stamp_at (last + 1)) × (last < last_stamp)
+given_next last s e = go (ltb last last_stamp) refl e
+  where
+    go : (b : Bool) → ltb last last_stamp ≡ b → Some s ≡ cond b (Some (stamp_at (last + 1))) None → (s ≡ stamp_at (last + 1)) × (last < last_stamp)
+    go true h k = (cc, ltb-true _ _ h)
+    go false h k = absurd (let z : ◌≡◌ {A = ℕ} 0 1 = cc in omega arith)
+
+pub none_given : (last : ℕ) → None ≡ stamp_after last → last_stamp ≤ last
+none_given last e = go (ltb last last_stamp) refl e
+  where
+    go : (b : Bool) → ltb last last_stamp ≡ b → None ≡ cond b (Some (stamp_at (last + 1))) None → last_stamp ≤ last
+    go true h k = absurd (let z : ◌≡◌ {A = ℕ} 0 1 = cc in omega arith)
+    go false h k = ltb-false _ _ h
 
 -- what holds of the order and its walk, holds of them as they are planned
-pub as_planned : (P : Arriving → Walk → Type 0) (reaches : ℕ → ℕ → Bool) (code : ℕ) (first : OrderRow → OrderRow → Bool) (o : Incoming) (stamp number : ℕ) (range : Range) (table : List OrderRow) (a : Arriving) (rests : Bool) → rests ≡ may_rest o.duration → a ≡ arriving_as o number → number ≡ stamp + 1 → P a (due (not rests) (matching reaches code first a range table)) → P (arriving_as o (stamp + 1)) (planned reaches code first o stamp range table)
-as_planned P reaches code first o stamp number range table a rests e f n h =
-    subst (λ (k : ℕ). P (arriving_as o k) (due (not (may_rest o.duration)) (matching reaches code first (arriving_as o k) range table))) n
-    (subst (λ (x : Arriving). P x (due (not (may_rest o.duration)) (matching reaches code first x range table))) f
-    (subst (λ (b : Bool). P a (due (not b) (matching reaches code first a range table))) e h))
-
--- the walk does not depend on the number that the order will have
-pub due_planned : (reaches : ℕ → ℕ → Bool) (code : ℕ) (first : OrderRow → OrderRow → Bool) (o : Incoming) (stamp number : ℕ) (range : Range) (table : List OrderRow) (a : Arriving) (rests : Bool) → rests ≡ may_rest o.duration → a ≡ arriving_as o number → due (not rests) (matching reaches code first a range table) ≡ planned reaches code first o stamp range table
-due_planned reaches code first o stamp number range table a rests e f =
-    ap (λ (b : Bool). due (not b) (matching reaches code first a range table)) e
-    ∙ ap (λ (x : Arriving). due (not (may_rest o.duration)) (matching reaches code first x range table)) f
+pub as_planned : (P : Arriving → Walk → Type 0) (reaches : ℕ → ℕ → Bool) (code : ℕ) (first : OrderRow → OrderRow → Bool) (o : Incoming) (stamp : ℕ) (number : Stamp) (range : Range) (table : List OrderRow) (rests : Bool) → rests ≡ may_rest o.duration → number ≡ stamp_at (stamp + 1) → P (record { number = number; order = o }) (due (not rests) (matching reaches code first o range table)) → P (arriving_as o (stamp + 1)) (planned reaches code first o range table)
+as_planned P reaches code first o stamp number range table rests e n h =
+    subst (λ (s : Stamp). P (record { number = s; order = o }) (planned reaches code first o range table)) n
+    (subst (λ (b : Bool). P (record { number = number; order = o }) (due (not b) (matching reaches code first o range table))) e h)
 
 -- only an order that may rest has something left
 pub left_rests : (rests : Bool) (w : Walk) → 0 < (due (not rests) w).rest → rests ≡ true

@@ -1,7 +1,7 @@
 -- One step of a walk, and what a sweep keeps. Assumes nothing.
-use Rattle.std.proofs.Common.{◌≡◌, ℕ, ◌+◌, ◌-◌, min, Bool, true, false, ◌⊎◌, List, [], ◌∷◌, ◌++◌, map, length, set, Some, None, sym, refl, ap, ◌∙◌, subst, inl, inr, append_assoc, arith}
+use Rattle.std.proofs.Common.{◌≡◌, ℕ, ◌+◌, ◌-◌, min, Bool, true, false, eqb, ◌⊎◌, List, [], ◌∷◌, ◌++◌, map, length, set, Some, sym, refl, ap, ◌∙◌, subst, inl, inr, append_assoc, arith, MatchOption}
 use Rattle.std.proofs.lemmas.List.{append-nil}
-use Rattle.std.proofs.lemmas.Bool.{eq-eqb, ne_eqb, cases_eq}
+use Rattle.std.proofs.lemmas.Bool.{cond_both, eq-eqb, ne_eqb, cases_eq}
 use Rattle.limits.specs.Ranges.{tradeable}
 use Rattle.orders.proofs.Gone.{tail, parts, gone_first}
 use Rattle.orders.proofs.Heads.{part}
@@ -17,25 +17,23 @@ module _ (reaches : ℕ → ℕ → Bool) (lo hi limit : ℕ) where
   walk_none q [] z = refl
   walk_none q (e ∷ es) z = rw (eq-eqb q 0 z)
 
-  pub walk_empty : (q : ℕ) (es : List Slot) → None ≡ head es → walk reaches lo hi limit q es ≡ stop q false
-  walk_empty q [] h = refl
-  walk_empty q (e ∷ es) h = absurd (let z : ◌≡◌ {A = ℕ} 0 1 = cc in omega arith)
+  pub walk_nothing : (q : ℕ) (es : List Slot) → MatchOption (head es) (Unit {0}) (λ a. reaches limit a.row.price ≡ false) → walk reaches lo hi limit q es ≡ stop q false
+  walk_nothing q [] h = refl
+  walk_nothing q (e ∷ es) h = cond_both (eqb q 0) _ _ (λ w. w ≡ stop q false) (λ z. refl) (λ n. rw h)
 
-  pub walk_unreached : (q : ℕ) (es : List Slot) (e : Slot) → Some e ≡ head es → (q ≡ 0 → ⊥) → false ≡ reaches limit e.row.price → walk reaches lo hi limit q es ≡ stop q false
-  walk_unreached q es e h n r = rw (parts es e (sym h), ne_eqb q 0 n, ← r)
+  pub walk_outside : (q : ℕ) (es : List Slot) → (q ≡ 0 → ⊥) → MatchOption (head es) ⊥ (λ a. (reaches limit a.row.price ≡ true) × (tradeable lo hi a.row.price ≡ false)) → walk reaches lo hi limit q es ≡ stop q true
+  walk_outside q [] n h = absurd h
+  walk_outside q (e ∷ es) n h = rw (ne_eqb q 0 n, h.0, h.1)
 
-  pub walk_outside : (q : ℕ) (es : List Slot) (e : Slot) → Some e ≡ head es → (q ≡ 0 → ⊥) → true ≡ reaches limit e.row.price → tradeable lo hi e.row.price ≡ false → walk reaches lo hi limit q es ≡ stop q true
-  walk_outside q es e h n r o = rw (parts es e (sym h), ne_eqb q 0 n, ← r, o)
-
-  pub walk_fill : (q : ℕ) (es : List Slot) (e : Slot) → Some e ≡ head es → (q ≡ 0 → ⊥) → true ≡ reaches limit e.row.price → tradeable lo hi e.row.price ≡ true → walk reaches lo hi limit q es ≡ fill_then (fill_of e (min q e.row.rest)) (walk reaches lo hi limit (q - min q e.row.rest) (tail es))
-  walk_fill q es e h n r o = rw (parts es e (sym h), ne_eqb q 0 n, ← r, o)
+  pub walk_fill : (q : ℕ) (es : List Slot) (e : Slot) → head es ≡ Some e → (q ≡ 0 → ⊥) → reaches limit e.row.price ≡ true → tradeable lo hi e.row.price ≡ true → walk reaches lo hi limit q es ≡ fill_then (fill_of e (min q e.row.rest)) (walk reaches lo hi limit (q - min q e.row.rest) (tail es))
+  walk_fill q es e h n r o = rw (parts es e h, ne_eqb q 0 n, r, o)
 
   -- after a fill of the first order the rest of the walk goes down the new table's queue
-  pub walk_on : (lt : Slot → Slot → Bool) (p : Slot → Bool) → ((k : ℕ) → p (slot k free) ≡ false) → (q m : ℕ) (rows : List OrderRow) (e : Slot) → Some e ≡ head (part lt p 0 (counted rows)) → m ≡ min q e.row.rest → walk reaches lo hi limit (q - m) (tail (part lt p 0 (counted rows))) ≡ walk reaches lo hi limit (q - m) (part lt p 0 (counted (set rows e.index (row_left e.row m))))
+  pub walk_on : (lt : Slot → Slot → Bool) (p : Slot → Bool) → ((k : ℕ) → p (slot k free) ≡ false) → (q m : ℕ) (rows : List OrderRow) (e : Slot) → head (part lt p 0 (counted rows)) ≡ Some e → m ≡ min q e.row.rest → walk reaches lo hi limit (q - m) (tail (part lt p 0 (counted rows))) ≡ walk reaches lo hi limit (q - m) (part lt p 0 (counted (set rows e.index (row_left e.row m))))
   walk_on lt p nobody q m rows e h s = go (cases_eq e.row.rest m)
     where
       go : (e.row.rest ≡ m) ⊎ (e.row.rest ≡ m → ⊥) → walk reaches lo hi limit (q - m) (tail (part lt p 0 (counted rows))) ≡ walk reaches lo hi limit (q - m) (part lt p 0 (counted (set rows e.index (row_left e.row m))))
-      go (inl z) = rw (eq-eqb e.row.rest m z) (ap (walk reaches lo hi limit (q - m)) (gone_first lt p nobody rows e h))
+      go (inl z) = rw (eq-eqb e.row.rest m z) (ap (walk reaches lo hi limit (q - m)) (gone_first lt p nobody rows e (sym h)))
       go (inr z) = walk_none (q - m) _ (omega arith) ∙ sym (walk_none (q - m) _ (omega arith))
 
 -- w is left of the walk w0 that began with the table t0 and the records s0
@@ -71,7 +69,7 @@ module _ {trade : Fill → TradeRow} {w0 : Walk} {t0 : List OrderRow} {s0 : List
       subst (λ (r : List TradeRow). Going trade w0 t0 s0 v (set t f.slot.index (row_left f.slot.row f.quantity)) r (n + 1)) (sym x) (going_more f v t s n j)
 
 -- the first order of the queue is filled, and the walk goes on down the new table's queue with what is left
-pub step : (reaches : ℕ → ℕ → Bool) (lo hi limit : ℕ) (lt : Slot → Slot → Bool) (p : Slot → Bool) → ((k : ℕ) → p (slot k free) ≡ false) → (q m left : ℕ) (rows : List OrderRow) (e : Slot) → Some e ≡ head (part lt p 0 (counted rows)) → (q ≡ 0 → ⊥) → true ≡ reaches limit e.row.price → tradeable lo hi e.row.price ≡ true → m ≡ min q e.row.rest → left ≡ q - m → walk reaches lo hi limit q (part lt p 0 (counted rows)) ≡ fill_then (fill_of e m) (walk reaches lo hi limit left (part lt p 0 (counted (set rows e.index (row_left e.row m)))))
+pub step : (reaches : ℕ → ℕ → Bool) (lo hi limit : ℕ) (lt : Slot → Slot → Bool) (p : Slot → Bool) → ((k : ℕ) → p (slot k free) ≡ false) → (q m left : ℕ) (rows : List OrderRow) (e : Slot) → head (part lt p 0 (counted rows)) ≡ Some e → (q ≡ 0 → ⊥) → reaches limit e.row.price ≡ true → tradeable lo hi e.row.price ≡ true → m ≡ min q e.row.rest → left ≡ q - m → walk reaches lo hi limit q (part lt p 0 (counted rows)) ≡ fill_then (fill_of e m) (walk reaches lo hi limit left (part lt p 0 (counted (set rows e.index (row_left e.row m)))))
 step reaches lo hi limit lt p nobody q m left rows e h n r o s l =
     walk_fill reaches lo hi limit q (part lt p 0 (counted rows)) e h n r o
     ∙ ap (λ (k : ℕ). fill_then (fill_of e k) (walk reaches lo hi limit (q - k) (tail (part lt p 0 (counted rows))))) (sym s)
@@ -95,7 +93,7 @@ left_end w0 w q h n k e =
     record { trades = omega (arith, j.trades); rest = j.rest; halted = j.halted }
 
 -- the first order is filled, and the walk goes on down the rest with what is left
-pub step_down : (reaches : ℕ → ℕ → Bool) (lo hi limit q left : ℕ) (es ds : List Slot) (e : Slot) → Some e ≡ head es → (q ≡ 0 → ⊥) → true ≡ reaches limit e.row.price → tradeable lo hi e.row.price ≡ true → left ≡ q - min q e.row.rest → ds ≡ tail es → walk reaches lo hi limit q es ≡ fill_then (fill_of e (min q e.row.rest)) (walk reaches lo hi limit left ds)
+pub step_down : (reaches : ℕ → ℕ → Bool) (lo hi limit q left : ℕ) (es ds : List Slot) (e : Slot) → head es ≡ Some e → (q ≡ 0 → ⊥) → reaches limit e.row.price ≡ true → tradeable lo hi e.row.price ≡ true → left ≡ q - min q e.row.rest → ds ≡ tail es → walk reaches lo hi limit q es ≡ fill_then (fill_of e (min q e.row.rest)) (walk reaches lo hi limit left ds)
 step_down reaches lo hi limit q left es ds e h n r o s d =
     walk_fill reaches lo hi limit q es e h n r o
     ∙ ap (λ (k : ℕ). fill_then (fill_of e (min q e.row.rest)) (walk reaches lo hi limit k (tail es))) (sym s)

@@ -31,7 +31,7 @@ RoomLeft before trades after = (after ≤ before) × (before ≤ after + trades)
 module _ {T : Type 0} (records : T → List TradeRow) (space : T → ℕ) where
   -- the fills are made, in the table and on the tape
   pub record Made (code : ℕ) (a : Arriving) (w : Walk) (table : List OrderRow) (tape : T) (answer : Swept) (table' : List OrderRow) (tape' : T) : Type 0 where
-    pub fits : takes (space tape) (records tape) a.time (length w.fills) ≡ true
+    pub fits : takes (space tape) (records tape) a.order.time (length w.fills) ≡ true
     pub reduced : table' ≡ filled w.fills table
     pub written : records tape' ≡ records tape ++ map (trade_by code a) w.fills
     pub traded : answer.traded ≡ lots_filled w.fills
@@ -41,7 +41,7 @@ module _ {T : Type 0} (records : T → List TradeRow) (space : T → ℕ) where
 
   -- the tape does not take them: nothing is written
   pub record Unmade (a : Arriving) (w : Walk) (table : List OrderRow) (tape : T) (refusal : Refusal) (table' : List OrderRow) (tape' : T) : Type 0 where
-    pub full : takes (space tape) (records tape) a.time (length w.fills) ≡ false
+    pub full : takes (space tape) (records tape) a.order.time (length w.fills) ≡ false
     pub told : refusal ≡ TapeFull (length w.fills)
     pub same_table : table' ≡ table
     pub same_tape : tape' ≡ tape

@@ -7,6 +7,7 @@ use Rattle.orders.specs.Rows.{free}
 use Rattle.orders.specs.declared.row.OrderRow.{OrderRow}
 use Rattle.tape.specs.declared.row.TradeRow.{TradeRow}
 use Rattle.book.specs.declared.arriving.Arriving.{Arriving}
+use Rattle.book.specs.declared.incoming.Incoming.{Incoming}
 
 -- a resting order, where it stands, and how much of it trades
 pub record Fill : Type 0 where
@@ -65,21 +66,21 @@ filled (f ∷ fills) table = filled fills (slice_set table f.slot.index (row_lef
 abbrev pub trade_by : ℕ → Arriving → Fill → TradeRow
 trade_by code a f =
     record {
-      product = a.product;
-      time = a.time;
+      product = a.order.product;
+      time = a.order.time;
       price = f.slot.row.price;
       quantity = f.quantity;
-      buy = cond (code == 0) f.slot.row.number a.number;
-      sell = cond (code == 0) a.number f.slot.row.number;
-      buyer = cond (code == 0) f.slot.row.participant a.participant.number;
-      seller = cond (code == 0) a.participant.number f.slot.row.participant;
-      established = a.established.ticks;
-      no_bust = a.no_bust;
+      buy = cond (code == 0) f.slot.row.number a.number.number;
+      sell = cond (code == 0) a.number.number f.slot.row.number;
+      buyer = cond (code == 0) f.slot.row.participant a.order.participant.number;
+      seller = cond (code == 0) a.order.participant.number f.slot.row.participant;
+      established = a.order.established.ticks;
+      no_bust = a.order.no_bust;
       mark = 0;
-      day = a.day;
+      day = a.order.day;
     }
 
 -- an arriving order against the queue of a side, inside two price ends
-abbrev pub matching : (ℕ → ℕ → Bool) → ℕ → (OrderRow → OrderRow → Bool) → Arriving → Range → List OrderRow → Walk
-matching reaches code first a range table =
-    walk reaches range.low.ticks range.high.ticks a.limit.ticks a.quantity.lots (queue code first a.product table)
+abbrev pub matching : (ℕ → ℕ → Bool) → ℕ → (OrderRow → OrderRow → Bool) → Incoming → Range → List OrderRow → Walk
+matching reaches code first o range table =
+    walk reaches range.low.ticks range.high.ticks o.limit.ticks o.quantity.lots (queue code first o.product table)

@@ -1,15 +1,14 @@
 // An order is entered: it trades, and what is left of it rests.
-ghost use Rattle.std.specs.Prelude.{◌≡◌, ℕ, ◌<◌, ◌≤◌, true, length};
+ghost use Rattle.std.specs.Prelude.{◌≡◌, ℕ, ◌<◌, true};
 ghost use Rattle.terms.specs.Checked.{lots_left};
 ghost use Rattle.terms.specs.Durations.{may_rest};
 ghost use Rattle.book.specs.Entries.{trades_entered, Enters, EntersFrom, resting_row, settled};
-ghost use Rattle.book.specs.Sweeps.{RoomLeft, due};
-ghost use Rattle.book.specs.Walks.{matching};
+ghost use Rattle.book.specs.Sweeps.{RoomLeft};
 
 use crate::arriving::Arriving;
 use crate::incoming::Incoming;
 use crate::outcome::Receipt;
-use crate::plan::plan;
+use crate::plan::plan_due;
 use crate::sweep::{has_room, lots, sweep};
 use limits::range::Range;
 use orders::questions::free_place;
@@ -20,34 +19,15 @@ use tape::Tape;
 use terms::quantity::Quantity;
 use terms::refusal::Refusal;
 use terms::side::Side;
-
-// How many trades an arriving order will make.
-fn due_trades<S: BookSide>(table: &[OrderRow], a: Arriving, range: Range, whole: bool) -> u32
-    ensures { result ≡ length (due whole (matching S.BookSide.reaches S.BookSide.code S.BookSide.first a range table.now)).fills }
-{
-    let planned = plan::<S>(table, a, range);
-    if whole & planned.rest.is_some() {
-        0
-    } else {
-        planned.trades
-    }
-}
+use terms::stamp::Stamp;
 
 // What is left of an order rests at this index.
-fn settle(
-    table: &mut [OrderRow],
-    index: usize,
-    side: Side,
-    o: Incoming,
-    number: u32,
-    rest: Option<Quantity>,
-)
-    requires numbered { 1 ≤ number }
-    requires lasting { 0 < lots_left rest → may_rest o.duration ≡ true }
-    ensures { table.new ≡ settled (resting_row side o number) index (lots_left rest) table.old }
+fn settle(table: &mut [OrderRow], index: usize, o: Incoming, number: Stamp, rest: Option<Quantity>)
+    requires { 0 < lots_left rest → may_rest o.duration ≡ true }
+    ensures { table.new ≡ settled (resting_row o number.number) index (lots_left rest) table.old }
 {
     if let Some(rest) = rest {
-        put(table, index, o.resting(side, number, rest));
+        put(table, index, o.resting(number, rest));
     }
 }
 
@@ -57,38 +37,33 @@ fn enter_against<S: BookSide, T: Tape>(
     tape: &mut T,
     products: u32,
     stamp: u32,
-    side: Side,
     o: Incoming,
     range: Range,
-) -> Result<Receipt, Refusal>
-where
-    Refusal: From<T::Fault>,
-    ensures entered { Enters S.BookSide.reaches S.BookSide.code S.BookSide.first T.Tape.records T.Tape.space products stamp side o range table.old tape.old result table.new tape.new }
+) -> Result<Receipt<bool>, Refusal>
+    ensures entered { Enters S.BookSide.reaches S.BookSide.code S.BookSide.first T.Tape.records T.Tape.space products stamp o range table.old tape.old result table.new tape.new }
     ensures room { RoomLeft (T.Tape.space tape.old) (trades_entered result) (T.Tape.space tape.new) }
 {
     if o.product >= products {
         return Err(Refusal::NotListed(o.product));
     }
-    let index = match free_place(table, products) {
-        Ok(index) => index,
-        Err(places) => return Err(Refusal::TableFull(places)),
-    };
+    let index = free_place(table, products)?;
     let whole = !o.duration.may_rest();
-    let Some(number) = stamp.checked_add(1) else {
-        let trades = due_trades::<S>(table, o.arriving(1), range, whole);
+    let Some(number) = Stamp::after(stamp) else {
+        let trades = plan_due::<S>(table, o, range, whole).trades;
         if !has_room(tape, o.time, trades) {
             return Err(Refusal::TapeFull(trades));
         }
         return Err(Refusal::Exhausted);
     };
-    let swept = sweep::<S, T>(table, tape, o.arriving(number), range, whole)?;
-    settle(table, index, side, o, number, swept.rest);
+    let arriving = Arriving { number, order: o };
+    let swept = sweep::<S, T>(table, tape, arriving, range, whole)?;
+    settle(table, index, o, number, swept.rest);
     Ok(Receipt {
-        number,
+        number: number.number(),
         traded: swept.traded,
         rest: lots(swept.rest),
         trades: swept.trades,
-        halted: swept.halted,
+        halt: swept.halted,
     })
 }
 
@@ -98,17 +73,14 @@ pub fn enter<T: Tape>(
     tape: &mut T,
     products: u32,
     stamp: u32,
-    side: Side,
     o: Incoming,
     range: Range,
-) -> Result<Receipt, Refusal>
-where
-    Refusal: From<T::Fault>,
-    ensures entered { EntersFrom T.Tape.records T.Tape.space products stamp side o range table.old tape.old result table.new tape.new }
+) -> Result<Receipt<bool>, Refusal>
+    ensures entered { EntersFrom T.Tape.records T.Tape.space products stamp o.side o range table.old tape.old result table.new tape.new }
     ensures room { RoomLeft (T.Tape.space tape.old) (trades_entered result) (T.Tape.space tape.new) }
 {
-    match side {
-        Side::Buy => enter_against::<Sells, T>(table, tape, products, stamp, side, o, range),
-        Side::Sell => enter_against::<Buys, T>(table, tape, products, stamp, side, o, range),
+    match o.side {
+        Side::Buy => enter_against::<Sells, T>(table, tape, products, stamp, o, range),
+        Side::Sell => enter_against::<Buys, T>(table, tape, products, stamp, o, range),
     }
 }

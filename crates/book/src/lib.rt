@@ -2,6 +2,7 @@
 #![tactic(auto)]
 
 pub mod arriving;
+pub mod coming;
 pub mod entering;
 pub mod incoming;
 pub mod laws;

@@ -25,7 +25,7 @@ use Rattle.rules.specs.Rules.{Step, refuses, accepts, after, answer, Chosen}
 use Rattle.rules.specs.Worlds.{World, in_session, is_halted, is_open, product_of, sweep_in}
 use Rattle.rules.specs.declared.amendment.Amendment.{Amendment}
 use Rattle.rules.specs.declared.new_order.NewOrder.{NewOrder}
-use Rattle.rules.specs.declared.receipt.Receipt.{Receipt}
+use Rattle.rules.specs.Receipts.{Receipt}
 use Rattle.laws.specs.Arriving.{Open, Arriver, arriver, Arrives, enters, amends}
 use Rattle.laws.specs.Book.{row_at, waits, Within, Before, Tidy}
 use Rattle.laws.specs.Histories.{Event, event, History, Reached, made, then_called}

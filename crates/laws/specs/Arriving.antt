@@ -12,7 +12,7 @@ use Rattle.rules.specs.Calls.{enter, amend, received}
 use Rattle.rules.specs.Worlds.{World, product_of}
 use Rattle.rules.specs.declared.amendment.Amendment.{Amendment}
 use Rattle.rules.specs.declared.new_order.NewOrder.{NewOrder}
-use Rattle.rules.specs.declared.receipt.Receipt.{Receipt}
+use Rattle.rules.specs.Receipts.{Receipt}
 use Rattle.laws.specs.Book.{row_at, waits, Within}
 
 -- a session runs, and neither the market nor the product is halted

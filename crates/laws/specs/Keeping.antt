@@ -13,7 +13,7 @@ use Rattle.rules.specs.Calls.{done, removed, received, left_with, case_on}
 use Rattle.rules.specs.Worlds.{World}
 use Rattle.rules.specs.declared.amendment.Amendment.{Amendment}
 use Rattle.rules.specs.declared.new_order.NewOrder.{NewOrder}
-use Rattle.rules.specs.declared.receipt.Receipt.{Receipt}
+use Rattle.rules.specs.Receipts.{Receipt}
 use Rattle.laws.specs.Arriving.{OwnPrice}
 use Rattle.laws.specs.Book.{row_at, resting}
 use Rattle.laws.specs.Histories.{Event, History, is_accepted}

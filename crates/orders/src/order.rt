@@ -27,6 +27,27 @@ pub struct Order {
     ghost lasting: { may_rest duration ≡ true },
 }
 
+impl Order {
+    ghost use Rattle.orders.specs.Orders.{row_of, come_back_row};
+
+    // The same order at a new place in time, a new price, and with so much of it left.
+    pub fn moved(self, place: Stamp, price: Price, rest: Quantity) -> Order
+        ensures { row_of result ≡ come_back_row (row_of self) place.number price.ticks rest.lots }
+    {
+        Order {
+            number: self.number,
+            place,
+            product: self.product,
+            side: self.side,
+            price,
+            rest,
+            participant: self.participant,
+            duration: self.duration,
+            entered: self.entered,
+        }
+    }
+}
+
 // An order where it stands in the table.
 #[derive(Clone, Copy, PartialEq, Eq, Debug)]
 pub struct Entry {

@@ -1,19 +1,19 @@
 // An amended order with a new price comes back to its book: it trades, and what is left of it rests again where it stood.
 #![tactic(auto)]
 
-ghost use Rattle.std.specs.Prelude.{◌≡◌, ◌≤◌, slice_set};
-ghost use Rattle.orders.specs.Orders.{row_of};
+ghost use Rattle.std.specs.Prelude.{◌≡◌, slice_set};
+ghost use Rattle.orders.specs.Orders.{row_of, come_back_row};
 ghost use Rattle.orders.specs.Rows.{free};
 ghost use Rattle.terms.specs.Checked.{lots_left};
 ghost use Rattle.book.specs.Entries.{settled};
-ghost use Rattle.returning.specs.Returns.{come_back_row, ComesBack, ComesBackFrom};
+ghost use Rattle.returning.specs.Returns.{ComesBack, ComesBackFrom};
 
 use book::arriving::Arriving;
 use book::outcome::Swept;
 use book::plan::plan;
 use book::sweep::{has_room, sweep};
 use limits::range::Range;
-use orders::order::{Entry, Order};
+use orders::order::Entry;
 use orders::resting::{clear, put};
 use orders::row::OrderRow;
 use orders::side::{BookSide, Buys, Sells};
@@ -22,33 +22,15 @@ use terms::price::Price;
 use terms::quantity::Quantity;
 use terms::refusal::Refusal;
 use terms::side::Side;
-
-// The same order at a new place in time, a new price, and with so much of it left.
-fn placed(order: Order, place: u32, price: Price, rest: Quantity) -> Order
-    requires { 1 ≤ place }
-    ensures { row_of result ≡ come_back_row (row_of order) place price.ticks rest.lots }
-{
-    Order {
-        number: order.number,
-        place,
-        product: order.product,
-        side: order.side,
-        price,
-        rest,
-        participant: order.participant,
-        duration: order.duration,
-        entered: order.entered,
-    }
-}
+use terms::stamp::Stamp;
 
 // The old place is free, or what is left of the order stands there again.
-fn settle(table: &mut [OrderRow], e: Entry, place: u32, price: Price, rest: Option<Quantity>)
-    requires { 1 ≤ place }
-    ensures { table.new ≡ settled (come_back_row (row_of e.order) place price.ticks) e.index (lots_left rest) (slice_set table.old e.index free) }
+fn settle(table: &mut [OrderRow], e: Entry, place: Stamp, price: Price, rest: Option<Quantity>)
+    ensures { table.new ≡ settled (come_back_row (row_of e.order) place.number price.ticks) e.index (lots_left rest) (slice_set table.old e.index free) }
 {
     clear(table, e.index);
     if let Some(rest) = rest {
-        put(table, e.index, placed(e.order, place, price, rest));
+        put(table, e.index, e.order.moved(place, price, rest));
     }
 }
 
@@ -61,19 +43,17 @@ fn come_back_against<S: BookSide, T: Tape>(
     a: Arriving,
     range: Range,
 ) -> Result<Swept, Refusal>
-where
-    Refusal: From<T::Fault>,
     ensures { ComesBack S.BookSide.reaches S.BookSide.code S.BookSide.first T.Tape.records T.Tape.space stamp e.index (row_of e.order) a range table.old tape.old result table.new tape.new }
 {
-    let Some(place) = stamp.checked_add(1) else {
-        let planned = plan::<S>(table, a, range);
-        if !has_room(tape, a.time, planned.trades) {
+    let Some(place) = Stamp::after(stamp) else {
+        let planned = plan::<S>(table, a.order, range);
+        if !has_room(tape, a.order.time, planned.trades) {
             return Err(Refusal::TapeFull(planned.trades));
         }
         return Err(Refusal::Exhausted);
     };
     let swept = sweep::<S, T>(table, tape, a, range, false)?;
-    settle(table, e, place, a.limit, swept.rest);
+    settle(table, e, place, a.order.limit, swept.rest);
     Ok(swept)
 }
 
@@ -86,8 +66,6 @@ pub fn come_back<T: Tape>(
     a: Arriving,
     range: Range,
 ) -> Result<Swept, Refusal>
-where
-    Refusal: From<T::Fault>,
     ensures { ComesBackFrom T.Tape.records T.Tape.space stamp e.order.side e.index (row_of e.order) a range table.old tape.old result table.new tape.new }
 {
     match e.order.side {

@@ -11,7 +11,7 @@ use Rattle.terms.specs.declared.side.Side.TheVariants.{Buy, Sell}
 use Rattle.rules.specs.Arrivals.{Arrival, met, arrived, receipt_for}
 use Rattle.rules.specs.Worlds.{World, world, state_of, at_time, is_open}
 use Rattle.rules.specs.declared.amendment.Amendment.{Amendment}
-use Rattle.rules.specs.declared.receipt.Receipt.{Receipt}
+use Rattle.rules.specs.Receipts.{Receipt}
 
 -- the place of the order of a number, if one rests
 abbrev pub place_of : World → ℕ → Option Slot

@@ -16,7 +16,7 @@ use Rattle.terms.specs.declared.halt.Halt.TheVariants.{Nothing, OneOption, Whole
 use Rattle.terms.specs.declared.side.Side.{Side}
 use Rattle.terms.specs.declared.side.Side.TheVariants.{Buy, Sell}
 use Rattle.rules.specs.Worlds.{World, world, state_of, product_of, range_in, established_in}
-use Rattle.rules.specs.declared.receipt.Receipt.{Receipt}
+use Rattle.rules.specs.Receipts.{Receipt}
 
 -- an order on its way into the book
 pub record Arrival : Type 0 where

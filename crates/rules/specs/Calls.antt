@@ -4,7 +4,7 @@ use Rattle.terms.specs.declared.determination.Determination.{Determination}
 use Rattle.terms.specs.declared.refusal.Refusal.{Refusal}
 use Rattle.rules.specs.declared.amendment.Amendment.{Amendment}
 use Rattle.rules.specs.declared.new_order.NewOrder.{NewOrder}
-use Rattle.rules.specs.declared.receipt.Receipt.{Receipt}
+use Rattle.rules.specs.Receipts.{Receipt}
 
 -- each comes at a time, which stands beside it
 pub data Call : Type 0 where

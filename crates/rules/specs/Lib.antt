@@ -1,3 +1,4 @@
+pub mod Receipts
 pub mod Held
 pub mod Worth
 pub mod Worlds

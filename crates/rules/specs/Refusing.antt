@@ -2,7 +2,8 @@
 use Rattle.std.specs.Prelude.{ℕ, ◌+◌, ◌-◌, Bool, true, false, not, ◌&&◌, ◌||◌, List, [], ◌∷◌, map, length, Some, None, Option, ◌==◌, nat_le, nat_lt}
 use Rattle.std.specs.List.{range_with_len}
 use Rattle.std.specs.Option.{unwrap_or}
-use Rattle.book.specs.Entries.{any_free, last_stamp}
+use Rattle.book.specs.Entries.{any_free}
+use Rattle.terms.specs.Stamps.{last_stamp}
 use Rattle.book.specs.Sweeps.{takes}
 use Rattle.established.specs.Verdicts.{verdict_on}
 use Rattle.limits.specs.Sweeps.{sweep_check}

@@ -10,11 +10,11 @@ pub returns : goal.returns
 returns g c =
     let s = g.S.BookSide in
     let met = g.met.S.BookSide in
-    let a = c.args.a in
+    let o = c.args.o in
     let range = c.args.range in
     let table = c.args.table.now in
     let places = slots 0 (counted table) in
-    let p = rests s.code a.product in
+    let p = rests s.code o.product in
     let ordered = ordered_sorted (before s.first) (ranks s.first met.oneway met.chain) (filter p places) (rising_kept p places (rising_slots 0 (counted table))) in
-    walk_laws s.reaches range.low.ticks range.high.ticks a.limit.ticks a.quantity.lots (queue s.code s.first a.product table)
-    (further s.first s.reaches a.limit.ticks met.oneway met.nearer (queue s.code s.first a.product table) ordered)
+    walk_laws s.reaches range.low.ticks range.high.ticks o.limit.ticks o.quantity.lots (queue s.code s.first o.product table)
+    (further s.first s.reaches o.limit.ticks met.oneway met.nearer (queue s.code s.first o.product table) ordered)

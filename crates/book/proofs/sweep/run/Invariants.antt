@@ -14,13 +14,13 @@ invariant-sweep g l =
     let low = l.range.low.ticks in
     let high = l.range.high.ticks in
     Going (trade_by s.code l.a)
-    (walk s.reaches low high l.a.limit.ticks l.a.quantity.lots (queue s.code s.first l.a.product l.initial.table))
+    (walk s.reaches low high l.a.order.limit.ticks l.a.order.quantity.lots (queue s.code s.first l.a.order.product l.initial.table))
     l.initial.table (t.records l.initial.tape)
-    (walk s.reaches low high l.a.limit.ticks (lots_left l.rest) (queue s.code s.first l.a.product l.table))
+    (walk s.reaches low high l.a.order.limit.ticks (lots_left l.rest) (queue s.code s.first l.a.order.product l.table))
     l.table (t.records l.tape) l.trades
-    × (length (walk s.reaches low high l.a.limit.ticks (lots_left l.rest) (queue s.code s.first l.a.product l.table)).fills ≤ t.space l.tape)
-    × (latest (t.records l.tape) ≤ l.a.time)
-    × (l.trades + lots_left l.rest ≤ l.a.quantity.lots)
+    × (length (walk s.reaches low high l.a.order.limit.ticks (lots_left l.rest) (queue s.code s.first l.a.order.product l.table)).fills ≤ t.space l.tape)
+    × (latest (t.records l.tape) ≤ l.a.order.time)
+    × (l.trades + lots_left l.rest ≤ l.a.order.quantity.lots)
     × RoomLeft (t.space l.initial.tape) l.trades (t.space l.tape)
 
 abbrev pub decreases-sweep : goal.decreases-sweep

@@ -1,4 +1,4 @@
-use Rattle.std.proofs.Common.{◌≡◌, ◌-◌, true, ◌&&◌, length, sym, refl, ap, ◌∙◌, subst, arith}
+use Rattle.std.proofs.Common.{◌≡◌, ◌-◌, true, length, sym, refl, ap, ◌∙◌, subst, arith}
 use Rattle.orders.specs.Queue.{queue}
 use Rattle.terms.specs.Checked.{lots_left}
 use Rattle.book.specs.Sweeps.{due, takes, Made}
@@ -12,18 +12,17 @@ returns-then-planned-eq0-clause-made g c =
     let s = g.S.BookSide in
     let t = g.T.Tape in
     let a = c.args.a in
-    let planned = c.plan-planned.ensures in
-    let w = matching s.reaches s.code s.first a c.args.range c.args.table.now in
-    let alive : due c.args.whole w ≡ w = not_killed c.args.whole w c.plan-planned.result.rest (ap (λ b. c.args.whole && b) (sym c.is_some.ensures) ∙ c.if-whole-is_some.false) planned.rest in
-    let answer : Swept = record { traded = 0; rest = c.plan-planned.result.rest; trades = 0; halted = c.plan-planned.result.halted } in
-    subst (λ (v : Walk). Made t.records t.space s.code a v c.args.table.now c.args.tape.now answer c.args.table.now c.args.tape.now) (sym alive)
-    (made_none t.records t.space s.code a w c.args.table.now c.args.tape.now answer refl refl (sym c.if-planned-eq0.true ∙ planned.trades) refl planned.rest planned.halted)
+    let planned = c.plan_due-planned.ensures in
+    let plan = c.plan_due-planned.result in
+    let w = due c.args.whole (matching s.reaches s.code s.first a.order c.args.range c.args.table.now) in
+    let answer : Swept = record { traded = 0; rest = plan.rest; trades = 0; halted = plan.halted } in
+    made_none t.records t.space s.code a w c.args.table.now c.args.tape.now answer refl refl (sym c.if-planned-eq0.true ∙ planned.trades) refl planned.rest planned.halted
 
 pub overflow_sub-result : goal.overflow_sub-result
 overflow_sub-result g c =
     let s = g.S.BookSide in
     let a = c.args.a in
-    let whole = walk_conserves s.reaches c.args.range.low.ticks c.args.range.high.ticks a.limit.ticks a.quantity.lots (queue s.code s.first a.product c.args.table.now) in
+    let whole = walk_conserves s.reaches c.args.range.low.ticks c.args.range.high.ticks a.order.limit.ticks a.order.quantity.lots (queue s.code s.first a.order.product c.args.table.now) in
     omega (arith, whole, c.lots.ensures, c.lots-2.ensures, c.run-done.ensures.rest)
 
 pub returns-clause-made : goal.returns-clause-made
@@ -31,15 +30,15 @@ returns-clause-made g c =
     let s = g.S.BookSide in
     let t = g.T.Tape in
     let a = c.args.a in
-    let planned = c.plan-planned.ensures in
+    let planned = c.plan_due-planned.ensures in
     let done = c.run-done.ensures in
-    let w = matching s.reaches s.code s.first a c.args.range c.args.table.now in
-    let alive : due c.args.whole w ≡ w = not_killed c.args.whole w c.plan-planned.result.rest (ap (λ b. c.args.whole && b) (sym c.is_some.ensures) ∙ c.if-whole-is_some.false) planned.rest in
+    let w = matching s.reaches s.code s.first a.order c.args.range c.args.table.now in
+    let alive : due c.args.whole w ≡ w = not_killed c.args.whole w c.plan_due-planned.result.trades planned.trades c.if-planned-eq0.false in
     let answer : Swept = record { traded = c.lots.result - c.lots-2.result; rest = c.run-done.result.rest; trades = c.run-done.result.trades; halted = c.run-done.result.halted } in
-    let fits : takes (t.space c.args.tape.now) (t.records c.args.tape.now) a.time (length w.fills) ≡ true =
-    ap (takes (t.space c.args.tape.now) (t.records c.args.tape.now) a.time) (sym planned.trades) ∙ sym c.if-not-has_room.ensures in
-    let traded : answer.traded ≡ a.quantity.lots - lots_left answer.rest = omega (arith, c.lots.ensures, c.lots-2.ensures) in
+    let fits : takes (t.space c.args.tape.now) (t.records c.args.tape.now) a.order.time (length w.fills) ≡ true =
+    ap (takes (t.space c.args.tape.now) (t.records c.args.tape.now) a.order.time) (sym (planned.trades ∙ ap (λ (v : Walk). length v.fills) alive)) ∙ sym c.if-not-has_room.ensures in
+    let traded : answer.traded ≡ a.order.quantity.lots - lots_left answer.rest = omega (arith, c.lots.ensures, c.lots-2.ensures) in
     subst (λ (v : Walk). Made t.records t.space s.code a v c.args.table.now c.args.tape.now answer c.run-done.new.table c.run-done.new.tape) (sym alive)
-    (made_run t.records t.space s.code a w c.args.table.now c.args.tape.now answer a.quantity.lots c.run-done.new.table c.run-done.new.tape
-    (walk_conserves s.reaches c.args.range.low.ticks c.args.range.high.ticks a.limit.ticks a.quantity.lots (queue s.code s.first a.product c.args.table.now))
+    (made_run t.records t.space s.code a w c.args.table.now c.args.tape.now answer a.order.quantity.lots c.run-done.new.table c.run-done.new.tape
+    (walk_conserves s.reaches c.args.range.low.ticks c.args.range.high.ticks a.order.limit.ticks a.order.quantity.lots (queue s.code s.first a.order.product c.args.table.now))
     fits done.table done.tape traded done.rest done.trades done.halted)
