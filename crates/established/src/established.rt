@@ -26,8 +26,6 @@ fn carried(spot: Price, own: Price, spot_reference: Price) -> Price
 }
 
 fn spot<T: Tape>(products: &Products, table: &[OrderRow], tape: &T, day: u32, time: u32) -> Price
-where
-    Refusal: From<T::Fault>,
     ensures { result.ticks ≡ established_spot products.now (moment table.now (T.Tape.records tape.now) day time) }
 {
     let product = products.spot();
@@ -46,8 +44,6 @@ fn future<T: Tape>(
     day: u32,
     time: u32,
 ) -> Price
-where
-    Refusal: From<T::Fault>,
     requires listed { n < products.now.count }
     requires same { product ≡ product_in products.now n }
     ensures { result.ticks ≡ established_future products.now (moment table.now (T.Tape.records tape.now) day time) n }
@@ -81,8 +77,6 @@ fn option_worth<M: PricingModel, T: Tape>(
     day: u32,
     time: u32,
 ) -> Price
-where
-    Refusal: From<T::Fault>,
     requires strike { strike ≤ highest_price }
     requires listed { underlying < products.now.count }
     ensures { result.ticks ≡ option_worth products.now (moment table.now (T.Tape.records tape.now) day time) (M.PricingModel.tells model.now) right strike underlying }
@@ -103,8 +97,6 @@ pub fn established<M: PricingModel, T: Tape>(
     day: u32,
     time: u32,
 ) -> Result<Price, Refusal>
-where
-    Refusal: From<T::Fault>,
     ensures answer { result ≡ answered (listed_check products.now product) (price_at (established_price products.now (moment table.now (T.Tape.records tape.now) day time) (M.PricingModel.tells model.now) product)) }
     ensures whole { product < products.now.count → established_price products.now (moment table.now (T.Tape.records tape.now) day time) (M.PricingModel.tells model.now) product ≤ highest_price }
 {

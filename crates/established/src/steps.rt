@@ -14,11 +14,8 @@ use tape::Tape;
 use tape::day::last_of_day;
 use tape::window::Sums;
 use terms::price::Price;
-use terms::refusal::Refusal;
 
 fn recent_average<T: Tape>(tape: &T, n: u32, time: u32) -> Option<Price>
-where
-    Refusal: From<T::Fault>,
     ensures { option_map ticks_of result ≡ recent_average (T.Tape.records tape.now) n time }
 {
     let sums = Sums::before(tape, n, time);
@@ -33,8 +30,6 @@ where
 }
 
 fn last_worth<T: Tape>(tape: &T, n: u32, product: Product, day: u32) -> Option<Price>
-where
-    Refusal: From<T::Fault>,
     requires { product.reference ≤ highest_price }
     ensures { option_map ticks_of result ≡ last_worth product (T.Tape.records tape.now) n day }
 {
@@ -79,8 +74,6 @@ pub(crate) fn told_by_trades<T: Tape>(
     day: u32,
     time: u32,
 ) -> Option<Price>
-where
-    Refusal: From<T::Fault>,
     requires { product.reference ≤ highest_price }
     ensures { option_map ticks_of result ≡ told_by_trades (moment table.now (T.Tape.records tape.now) day time) n product }
 {
