@@ -1,3 +1,1 @@
 pub mod Means
-pub mod Cases
-pub mod Priced

@@ -2,4 +2,5 @@ pub mod Averages
 pub mod Corrections
 pub mod Days
 pub mod Established
+pub mod Moments
 pub mod Verdicts

@@ -1,6 +1,6 @@
 // The established market price of a product, and how far from it a trade may be taken back.
 #![tactic(auto)]
 
-pub mod established;
+pub mod moment;
 mod steps;
 pub mod verdict;

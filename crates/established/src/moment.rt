@@ -1,0 +1,148 @@
+// A moment of a market: all that an established market price is worked out from, but for the pricing model.
+ghost use Rattle.std.specs.Prelude.{◌≡◌, ◌<◌, ◌≤◌};
+ghost use Rattle.std.specs.Option.{option_map};
+ghost use Rattle.listing.specs.Questions.{product_in, listed_check};
+ghost use Rattle.terms.specs.Checked.{price_at};
+ghost use Rattle.terms.specs.Checks.{answered};
+ghost use Rattle.terms.specs.Ranges.{highest_price};
+ghost use Rattle.established.specs.Averages.{ticks_of, recent_average};
+ghost use Rattle.established.specs.Corrections.{corrected_in};
+ghost use Rattle.established.specs.Days.{last_worth};
+ghost use Rattle.established.specs.Established.{told_by_trades, established_spot, established_future, option_worth, established};
+ghost use Rattle.established.specs.Moments.{moment_of};
+
+use crate::steps::{carried, corrected};
+use listing::kind::Kind;
+use listing::product::Product;
+use listing::products::Products;
+use orders::questions::top;
+use orders::row::OrderRow;
+use pricing::model::PricingModel;
+use tape::Tape;
+use tape::day::last_of_day;
+use tape::window::Sums;
+use terms::price::Price;
+use terms::refusal::Refusal;
+use terms::right::Right;
+
+#[derive(Clone, Copy)]
+pub struct Moment<'a, T> {
+    pub products: &'a Products,
+    pub table: &'a [OrderRow],
+    pub tape: &'a T,
+    pub day: u32,
+    pub time: u32,
+}
+
+impl<T: Tape> Moment<'_, T> {
+    #[tactic(auto, using(crate::proofs::Means::quotient_priced, terms::proofs::Checked::price_ok))]
+    fn recent_average(&self, n: u32) -> Option<Price>
+        ensures { option_map ticks_of result ≡ recent_average (T.Tape.records self.now.tape.now) n self.now.time }
+    {
+        let sums = Sums::before(self.tape, n, self.time);
+        let average = sums.turnover.checked_div(sums.volume)?;
+        // an average of prices is one
+        Some(Price::try_from(average as u32).unwrap())
+    }
+
+    fn last_worth(&self, n: u32, product: Product) -> Option<Price>
+        requires { product.reference ≤ highest_price }
+        ensures { option_map ticks_of result ≡ last_worth product (T.Tape.records self.now.tape.now) n self.now.day }
+    {
+        let last = last_of_day(self.tape, n, self.day)?;
+        if last.number <= product.adjusted {
+            Some(product.reference_price())
+        } else {
+            Some(last.price)
+        }
+    }
+
+    #[tactic(auto, unfolding(crate::specs::Corrections::corrected_in))]
+    fn corrected(&self, n: u32, worth: Price) -> Price
+        ensures { result.ticks ≡ corrected_in self.now.table.now n worth.ticks }
+    {
+        let (buy, sell) = top(self.table, n);
+        corrected(buy, sell, worth)
+    }
+
+    // The average of the window, else the last trade of the day, corrected.
+    fn told_by_trades(&self, n: u32, product: Product) -> Option<Price>
+        requires { product.reference ≤ highest_price }
+        ensures { option_map ticks_of result ≡ told_by_trades (moment_of T.Tape.records self.now) n product }
+    {
+        let average = self.recent_average(n);
+        if average.is_some() {
+            return average;
+        }
+        Some(self.corrected(n, self.last_worth(n, product)?))
+    }
+
+    #[tactic(auto, unfolding(crate::specs::Established::established_spot, crate::specs::Established::established_from))]
+    fn spot(&self) -> Price
+        ensures { result.ticks ≡ established_spot self.now.products.now (moment_of T.Tape.records self.now) }
+    {
+        let product = self.products.spot();
+        match self.told_by_trades(0, product) {
+            Some(price) => price,
+            None => self.corrected(0, product.reference_price()),
+        }
+    }
+
+    #[tactic(auto, unfolding(crate::specs::Established::established_future, crate::specs::Established::established_from))]
+    fn future(&self, n: u32, product: Product) -> Price
+        requires listed { n < self.now.products.now.count }
+        requires same { product ≡ product_in self.now.products.now n }
+        ensures { result.ticks ≡ established_future self.now.products.now (moment_of T.Tape.records self.now) n }
+    {
+        if n == 0 {
+            return self.spot();
+        }
+        match self.told_by_trades(n, product) {
+            Some(price) => price,
+            None => {
+                let spot = self.spot();
+                let spot_reference = self.products.spot().reference_price();
+                self.corrected(n, carried(spot, product.reference_price(), spot_reference))
+            }
+        }
+    }
+
+    // What an option is worth without a trade.
+    fn option_worth<M: PricingModel>(
+        &self,
+        model: &M,
+        right: Right,
+        strike: u32,
+        underlying: u32,
+    ) -> Price
+        requires strike { strike ≤ highest_price }
+        requires listed { underlying < self.now.products.now.count }
+        ensures { result.ticks ≡ option_worth self.now.products.now (moment_of T.Tape.records self.now) (M.PricingModel.tells model.now) right strike underlying }
+    {
+        let product = self.products.product(underlying).unwrap();
+        let price = self.future(underlying, product);
+        model.price(right, Price::try_from(strike).unwrap(), price)
+    }
+
+    #[tactic(auto, using(terms::proofs::Checked::price_is), unfolding(crate::specs::Established::established, crate::specs::Established::established_from))]
+    pub fn established<M: PricingModel>(&self, model: &M, product: u32) -> Result<Price, Refusal>
+        ensures answer { result ≡ answered (listed_check self.now.products.now product) (price_at (established self.now.products.now (moment_of T.Tape.records self.now) (M.PricingModel.tells model.now) product)) }
+        ensures whole { product < self.now.products.now.count → established self.now.products.now (moment_of T.Tape.records self.now) (M.PricingModel.tells model.now) product ≤ highest_price }
+    {
+        let found = self.products.product(product)?;
+        match found.listed.kind {
+            Kind::Future => Ok(self.future(product, found)),
+            Kind::Option {
+                right,
+                strike,
+                underlying,
+            } => match self.told_by_trades(product, found) {
+                Some(price) => Ok(price),
+                None => {
+                    let worth = self.option_worth(model, right, strike, underlying);
+                    Ok(self.corrected(product, worth))
+                }
+            },
+        }
+    }
+}
