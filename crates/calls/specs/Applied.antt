@@ -9,10 +9,10 @@ use Rattle.rules.specs.Worlds.{World}
 use Rattle.terms.specs.declared.determination.Determination.{Determination}
 use Rattle.terms.specs.declared.refusal.Refusal.{Refusal}
 use Rattle.calls.specs.Keeping.{Kept, kept_after}
-use Rattle.calls.specs.Made.{heard}
+use Rattle.calls.specs.Made.{answer_of}
 use Rattle.calls.specs.declared.call.Answer.{Answer}
-use Rattle.calls.specs.declared.call.Unheard.{Unheard}
-use Rattle.calls.specs.declared.call.Unheard.TheVariants.{NoCase, NoMemory}
+use Rattle.calls.specs.declared.call.Undone.{Undone}
+use Rattle.calls.specs.declared.call.Undone.TheVariants.{Refused, NoCase, NoMemory}
 
 -- every history by which what the call found was reached goes on with it, and every law holds of the longer one
 abbrev pub GoesOn : World → ℕ → Call → Result RuleAnswer Refusal → World → List ℕ → List ℕ → Type 0
@@ -42,7 +42,9 @@ pub record Unkept (w : World) (c : Call) (kept : List ℕ) (w' : World) (kept' :
   pub same : w' ≡ w
   pub cases : kept' ≡ kept
 
-abbrev pub Applied : World → ℕ → Call → List ℕ → Result (Result Answer Refusal) Unheard → World → List ℕ → Type 0
-Applied w time c kept (Ok r) w' kept' = Heard w time c kept (heard r) w' kept'
+-- a refused call is heard too, and is part of the history
+abbrev pub Applied : World → ℕ → Call → List ℕ → Result Answer Undone → World → List ℕ → Type 0
+Applied w time c kept (Ok answer) w' kept' = Heard w time c kept (Ok (answer_of answer)) w' kept'
+Applied w time c kept (Err (Refused refusal)) w' kept' = Heard w time c kept (Err refusal) w' kept'
 Applied w time c kept (Err (NoCase trade)) w' kept' = Caseless w c kept trade w' kept'
 Applied w time c kept (Err NoMemory) w' kept' = Unkept w c kept w' kept'

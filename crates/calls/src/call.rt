@@ -1,11 +1,16 @@
-// A call of any kind, what it is answered, and why one is not made at all.
+// A call of any kind, what it is answered, and why one is not done.
+ghost use Rattle.std.specs.Prelude.{◌≡◌};
+ghost use Rattle.calls.specs.declared.call.Undone.TheVariants.{Refused as refused, NoMemory as no_memory};
+
 use rules::amendment::Amendment;
 use rules::new_order::NewOrder;
 use rules::receipt::Receipt;
+use std::alloc::AllocError;
 use terms::determination::Determination;
+use terms::refusal::Refusal;
 
 // Each comes at a time, which stands beside it.
-#[derive(Clone, Copy)]
+#[derive(Clone, Copy, PartialEq, Eq, Debug)]
 pub enum Call<'a> {
     // one settlement price for each product
     Roll(&'a [u32]),
@@ -22,7 +27,7 @@ pub enum Call<'a> {
     Determine { trade: u32, verdict: Determination },
 }
 
-#[derive(Clone, Copy)]
+#[derive(Clone, Copy, PartialEq, Eq, Debug)]
 pub enum Answer {
     Done,
     // so many orders left at the close
@@ -34,10 +39,28 @@ pub enum Answer {
     CaseOn(u32),
 }
 
-#[derive(Clone, Copy)]
-pub enum Unheard {
+// A refused call was heard, and its refusal is part of the history; the others were not made at all.
+#[derive(Clone, Copy, PartialEq, Eq, Debug)]
+pub enum Undone {
+    Refused(Refusal),
     // no case on this trade is kept
     NoCase(u32),
     // no memory to keep another case
     NoMemory,
+}
+
+impl From<Refusal> for Undone {
+    ghost from_gives = { λ refusal r. r ≡ refused refusal };
+
+    fn from(refusal: Refusal) -> Undone {
+        Undone::Refused(refusal)
+    }
+}
+
+impl From<AllocError> for Undone {
+    ghost from_gives = { λ _ r. r ≡ no_memory };
+
+    fn from(_error: AllocError) -> Undone {
+        Undone::NoMemory
+    }
 }
