@@ -5,7 +5,7 @@ ghost use Rattle.market.specs.Markets.{world_of, bare};
 ghost use Rattle.market.specs.Questions.{top_in, range_asked, established_asked};
 
 use crate::market::Market;
-use established::established::established;
+use established::moment::Moment;
 use limits::range::Range;
 use orders::questions::top;
 use orders::row::OrderRow;
@@ -53,8 +53,6 @@ impl<M: PricingModel> Market<M> {
 
     // One trade, by its number on the tape.
     pub fn trade<T: Tape>(&self, tape: &T, number: u32) -> Result<Trade, Refusal>
-    where
-        Refusal: From<T::Fault>,
         ensures { TradeAt (T.Tape.records tape.now) number result }
     {
         trade_at(tape, number)
@@ -68,19 +66,16 @@ impl<M: PricingModel> Market<M> {
         time: u32,
         product: u32,
     ) -> Result<Price, Refusal>
-    where
-        Refusal: From<T::Fault>,
         ensures { result ≡ established_asked (world_of M.PricingModel.tells T.Tape.records T.Tape.space self.now table.now tape.now) time product }
     {
         hold_time(self.state, time)?;
-        established(
-            &self.products,
-            &self.model,
+        let moment = Moment {
+            products: &self.products,
             table,
             tape,
-            product,
-            self.state.day,
+            day: self.state.day,
             time,
-        )
+        };
+        moment.established(&self.model, product)
     }
 }
