@@ -1,7 +1,7 @@
 // What a market keeps beside its products.
 use terms::phase::Phase;
 
-#[derive(Clone, Copy, PartialEq, Eq, Debug)]
+#[derive(Clone, Copy, PartialEq, Eq, Default, Debug)]
 pub struct State {
     pub phase: Phase,
     pub day: u32,
