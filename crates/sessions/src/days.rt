@@ -1,13 +1,11 @@
 // The turns of a day: a new day rolls in, sessions open and close.
-ghost use Rattle.std.specs.Prelude.{◌≡◌, [], None as passes};
-ghost use Rattle.rules.specs.Held.{with_settlements};
-ghost use Rattle.listing.specs.Changes.{contents};
+ghost use Rattle.std.specs.Prelude.{◌≡◌, []};
 ghost use Rattle.rules.specs.Calls.{roll as rolling, open_session, close_session, done, removed, told};
 ghost use Rattle.rules.specs.Refusing.{fault};
-ghost use Rattle.rules.specs.Rules.{after_roll};
 ghost use Rattle.terms.specs.Checks.{answered};
 ghost use Rattle.market.specs.Markets.{world_of, bare, Follows};
 ghost use Rattle.rules.specs.Turns.{turned_state};
+ghost use Rattle.sessions.specs.Days.{Rolled};
 
 use listing::products::Products;
 use market::market::Market;
@@ -23,38 +21,33 @@ use tape::Tape;
 use terms::refusal::Refusal;
 
 // The state once the session is open; a crossed book stops it.
-fn opened(
-    state: State,
-    products: &Products,
+fn opened<M: PricingModel>(
+    market: &Market<M>,
     table: &[OrderRow],
     time: u32,
 ) -> Result<State, Refusal>
-    ensures { result ≡ answered (fault (bare state products.now table.now) time open_session) (turned_state state time) }
+    ensures { result ≡ answered (fault (bare market.now.state market.now.products table.now) time open_session) (turned_state market.now.state time) }
 {
-    let mut next = state;
-    advance(&mut next, Turn::Open, time)?;
-    hold_uncrossed(table, products.count())?;
-    Ok(next)
+    let mut state = market.state;
+    advance(&mut state, Turn::Open, time)?;
+    hold_uncrossed(table, market.products.count())?;
+    Ok(state)
 }
 
-// The next day, with a settlement price for each product.
-fn rolled(
-    state: &mut State,
-    products: &mut Products,
+// The state and the products of the next day, with a settlement price for each product.
+fn rolled<M: PricingModel>(
+    market: &Market<M>,
     time: u32,
     prices: &[u32],
-) -> Result<(), Refusal>
-    ensures answer { result ≡ answered (fault (bare state.old products.old []) time (rolling prices.now)) tt }
-    ensures state { fault (bare state.old products.old []) time (rolling prices.now) ≡ passes → state.new ≡ (after_roll (bare state.old products.old []) time prices.now).state }
-    ensures products { fault (bare state.old products.old []) time (rolling prices.now) ≡ passes → contents products.new ≡ with_settlements (contents products.old) prices.now }
+) -> Result<(State, Products), Refusal>
+    ensures { Rolled (bare market.now.state market.now.products []) time prices.now result }
 {
-    advance(state, Turn::Roll, time)?;
+    let mut state = market.state;
+    advance(&mut state, Turn::Roll, time)?;
+    let mut products = market.products;
     products.settle(prices)?;
-    let Some(day) = state.day.checked_add(1) else {
-        return Err(Refusal::Exhausted);
-    };
-    state.day = day;
-    Ok(())
+    state.day = state.day.checked_add(1).ok_or(Refusal::Exhausted)?;
+    Ok((state, products))
 }
 
 // A new day begins: each product's settlement price becomes its reference price.
@@ -65,13 +58,9 @@ pub fn roll<M: PricingModel, T: Tape>(
     time: u32,
     prices: &[u32],
 ) -> Result<(), Refusal>
-where
-    Refusal: From<T::Fault>,
     ensures { Follows (world_of M.PricingModel.tells T.Tape.records T.Tape.space market.old table.now tape.now) time (rolling prices.now) (told (λ _. done) result) (world_of M.PricingModel.tells T.Tape.records T.Tape.space market.new table.now tape.now) }
 {
-    let mut state = market.state;
-    let mut products = market.products;
-    rolled(&mut state, &mut products, time, prices)?;
+    let (state, products) = rolled(market, time, prices)?;
     market.state = state;
     market.products = products;
     Ok(())
@@ -84,11 +73,9 @@ pub fn open<M: PricingModel, T: Tape>(
     tape: &T,
     time: u32,
 ) -> Result<(), Refusal>
-where
-    Refusal: From<T::Fault>,
     ensures { Follows (world_of M.PricingModel.tells T.Tape.records T.Tape.space market.old table.now tape.now) time open_session (told (λ _. done) result) (world_of M.PricingModel.tells T.Tape.records T.Tape.space market.new table.now tape.now) }
 {
-    market.state = opened(market.state, &market.products, table, time)?;
+    market.state = opened(market, table, time)?;
     Ok(())
 }
 
@@ -99,18 +86,13 @@ pub fn close<M: PricingModel, T: Tape>(
     tape: &T,
     time: u32,
 ) -> Result<u32, Refusal>
-where
-    Refusal: From<T::Fault>,
     ensures { Follows (world_of M.PricingModel.tells T.Tape.records T.Tape.space market.old table.old tape.now) time close_session (told removed result) (world_of M.PricingModel.tells T.Tape.records T.Tape.space market.new table.new tape.now) }
 {
-    let mut state = market.state;
-    advance(&mut state, Turn::Close, time)?;
     let close = Close {
         day_ends: ends_day(market.state.phase),
         day: market.state.day,
         limit: market.products.day_limit(),
     };
-    let count = expire(table, market.products.count(), close);
-    market.state = state;
-    Ok(count)
+    advance(&mut market.state, Turn::Close, time)?;
+    Ok(expire(table, market.products.count(), close))
 }
