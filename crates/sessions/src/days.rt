@@ -5,9 +5,7 @@ ghost use Rattle.rules.specs.Refusing.{fault};
 ghost use Rattle.terms.specs.Checks.{answered};
 ghost use Rattle.market.specs.Markets.{world_of, bare, Follows};
 ghost use Rattle.rules.specs.Turns.{turned_state};
-ghost use Rattle.sessions.specs.Days.{Rolled};
 
-use listing::products::Products;
 use market::market::Market;
 use orders::close::Close;
 use orders::resting::expire;
@@ -15,40 +13,9 @@ use orders::row::OrderRow;
 use pricing::model::PricingModel;
 use rules::crossing::hold_uncrossed;
 use rules::phases::ends_day;
-use rules::state::State;
 use rules::turns::{Turn, advance};
 use tape::Tape;
 use terms::refusal::Refusal;
-
-// The state once the session is open; a crossed book stops it.
-fn opened<M: PricingModel>(
-    market: &Market<M>,
-    table: &[OrderRow],
-    time: u32,
-) -> Result<State, Refusal>
-    ensures { result ≡ answered (fault (bare market.now.state market.now.products table.now) time open_session) (turned_state market.now.state time) }
-{
-    let mut state = market.state;
-    advance(&mut state, Turn::Open, time)?;
-    hold_uncrossed(table, market.products.count())?;
-    Ok(state)
-}
-
-// The state and the products of the next day, with a settlement price for each product.
-fn rolled<M: PricingModel>(
-    market: &Market<M>,
-    time: u32,
-    prices: &[u32],
-) -> Result<(State, Products), Refusal>
-    ensures { Rolled (bare market.now.state market.now.products []) time prices.now result }
-{
-    let mut state = market.state;
-    advance(&mut state, Turn::Roll, time)?;
-    let mut products = market.products;
-    products.settle(prices)?;
-    state.day = state.day.checked_add(1).ok_or(Refusal::Exhausted)?;
-    Ok((state, products))
-}
 
 // A new day begins: each product's settlement price becomes its reference price.
 pub fn roll<M: PricingModel, T: Tape>(
@@ -60,7 +27,11 @@ pub fn roll<M: PricingModel, T: Tape>(
 ) -> Result<(), Refusal>
     ensures { Follows (world_of M.PricingModel.tells T.Tape.records T.Tape.space market.old table.now tape.now) time (rolling prices.now) (told (λ _. done) result) (world_of M.PricingModel.tells T.Tape.records T.Tape.space market.new table.now tape.now) }
 {
-    let (state, products) = rolled(market, time, prices)?;
+    let mut state = market.state;
+    advance(&mut state, Turn::Roll, time)?;
+    let mut products = market.products;
+    products.settle(prices)?;
+    state.day = state.day.checked_add(1).ok_or(Refusal::Exhausted)?;
     market.state = state;
     market.products = products;
     Ok(())
@@ -75,7 +46,10 @@ pub fn open<M: PricingModel, T: Tape>(
 ) -> Result<(), Refusal>
     ensures { Follows (world_of M.PricingModel.tells T.Tape.records T.Tape.space market.old table.now tape.now) time open_session (told (λ _. done) result) (world_of M.PricingModel.tells T.Tape.records T.Tape.space market.new table.now tape.now) }
 {
-    market.state = opened(market, table, time)?;
+    let mut state = market.state;
+    advance(&mut state, Turn::Open, time)?;
+    hold_uncrossed(table, market.products.count())?;
+    market.state = state;
     Ok(())
 }
 

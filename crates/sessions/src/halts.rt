@@ -13,22 +13,7 @@ use rules::turns::hold_time;
 use tape::Tape;
 use terms::refusal::Refusal;
 
-// Whether there is a halt to be lifted, over a book that is not crossed.
-fn hold_resumption<M: PricingModel>(
-    market: &Market<M>,
-    table: &[OrderRow],
-    time: u32,
-) -> Result<(), Refusal>
-    ensures { result ≡ answered (fault (bare market.now.state market.now.products table.now) time resuming) tt }
-{
-    hold_time(market.state, time)?;
-    if !(market.state.halted || market.products.is_any_halted()) {
-        return Err(Refusal::NothingHalted);
-    }
-    hold_uncrossed(table, market.products.count())
-}
-
-// Every halt is lifted.
+// Every halt is lifted, over a book that is not crossed.
 pub fn resume<M: PricingModel, T: Tape>(
     market: &mut Market<M>,
     table: &[OrderRow],
@@ -37,7 +22,11 @@ pub fn resume<M: PricingModel, T: Tape>(
 ) -> Result<(), Refusal>
     ensures { Follows (world_of M.PricingModel.tells T.Tape.records T.Tape.space market.old table.now tape.now) time resuming (told (λ _. done) result) (world_of M.PricingModel.tells T.Tape.records T.Tape.space market.new table.now tape.now) }
 {
-    hold_resumption(market, table, time)?;
+    hold_time(market.state, time)?;
+    if !(market.state.halted || market.products.is_any_halted()) {
+        return Err(Refusal::NothingHalted);
+    }
+    hold_uncrossed(table, market.products.count())?;
     market.products.lift();
     market.state.halted = false;
     market.state.time = time;

@@ -14,20 +14,6 @@ use tape::Tape;
 use terms::price::Price;
 use terms::refusal::Refusal;
 
-// The new reference price, once nothing stops it.
-fn adjusted<M: PricingModel>(
-    market: &Market<M>,
-    time: u32,
-    product: u32,
-    price: u32,
-) -> Result<Price, Refusal>
-    ensures { result ≡ answered (fault (bare market.now.state market.now.products []) time (adjusting product price)) (price_at price) }
-{
-    hold_time(market.state, time)?;
-    let _ = market.products.product(product)?;
-    Ok(Price::try_from(price)?)
-}
-
 // One product's reference price from now on.
 pub fn adjust<M: PricingModel, T: Tape>(
     market: &mut Market<M>,
@@ -39,7 +25,9 @@ pub fn adjust<M: PricingModel, T: Tape>(
 ) -> Result<(), Refusal>
     ensures { Follows (world_of M.PricingModel.tells T.Tape.records T.Tape.space market.old table.now tape.now) time (adjusting product price) (told (λ _. done) result) (world_of M.PricingModel.tells T.Tape.records T.Tape.space market.new table.now tape.now) }
 {
-    let reference = adjusted(market, time, product, price)?;
+    hold_time(market.state, time)?;
+    let _ = market.products.product(product)?;
+    let reference = Price::try_from(price)?;
     market
         .products
         .adjust(product, reference, tape.count())

@@ -5,7 +5,6 @@ ghost use Rattle.market.specs.Markets.{world_of, bare, Follows};
 ghost use Rattle.rules.specs.Owners.{Held};
 
 use market::market::Market;
-use orders::order::Entry;
 use orders::resting::clear;
 use orders::row::OrderRow;
 use pricing::model::PricingModel;
@@ -15,24 +14,6 @@ use rules::turns::hold_time;
 use tape::Tape;
 use terms::participant::Participant;
 use terms::refusal::Refusal;
-
-// The order to be withdrawn, once nothing stops it.
-fn leaving<M: PricingModel>(
-    market: &Market<M>,
-    table: &[OrderRow],
-    time: u32,
-    participant: u32,
-    number: u32,
-) -> Result<Entry, Refusal>
-    ensures { Held (bare market.now.state market.now.products table.now) time (withdrawing participant number) number result }
-{
-    hold_time(market.state, time)?;
-    if is_closed(market.state.phase) {
-        return Err(Refusal::WrongPhase(market.state.phase));
-    }
-    let _ = Participant::try_from(participant)?;
-    own_order(table, market.products.count(), participant, number)
-}
 
 // The order leaves; the quantity that it leaves with.
 #[tactic(auto, unfolding(rules::specs::Amending::slot_in))]
@@ -46,7 +27,12 @@ pub fn withdraw<M: PricingModel, T: Tape>(
 ) -> Result<u32, Refusal>
     ensures { Follows (world_of M.PricingModel.tells T.Tape.records T.Tape.space market.old table.old tape.now) time (withdrawing participant number) (told left_with result) (world_of M.PricingModel.tells T.Tape.records T.Tape.space market.new table.new tape.now) }
 {
-    let entry = leaving(market, table, time, participant, number)?;
+    hold_time(market.state, time)?;
+    if is_closed(market.state.phase) {
+        return Err(Refusal::WrongPhase(market.state.phase));
+    }
+    let _ = Participant::try_from(participant)?;
+    let entry = own_order(table, market.products.count(), participant, number)?;
     clear(table, entry.index);
     market.state.time = time;
     Ok(entry.order.rest.lots())
