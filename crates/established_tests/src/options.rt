@@ -1,5 +1,5 @@
 // Options by both pricing models.
-use crate::sample::{FUTURE, NO_TRADE, adjust, option_on, order, products};
+use crate::sample::{FUTURE, adjust, option_on, order, products};
 use established::moment::Moment;
 use orders::row::OrderRow;
 use pricing::intrinsic::Intrinsic;
@@ -8,13 +8,14 @@ use pricing::model::PricingModel;
 use pricing::rung::Rung;
 use record_tape::{RecordTape, Records};
 use std::test::Fail;
+use tape::row::TradeRow;
 use terms::right::Right;
 
 // An option at 6400, of this right, on a future whose reference is 6400.
 fn told<M: PricingModel>(model: &M, right: Right, table: &[OrderRow]) -> Result<u32, Fail> {
     let mut products = products(&[FUTURE, option_on(right, 6400, 0)])?;
     adjust(&mut products, 0, 6400, 0)?;
-    let mut rows = [NO_TRADE; 1];
+    let mut rows = [TradeRow::default(); 1];
     let at = Moment {
         products: &products,
         table,

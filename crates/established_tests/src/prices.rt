@@ -1,11 +1,12 @@
 // The three steps, on a tape in memory.
-use crate::sample::{FUTURE, NO_TRADE, adjust, order, products, trade};
+use crate::sample::{FUTURE, adjust, order, products, trade};
 use established::moment::Moment;
 use orders::row::OrderRow;
 use pricing::intrinsic::Intrinsic;
 use record_tape::{RecordTape, Records};
 use std::test::Fail;
 use tape::Tape;
+use tape::row::TradeRow;
 
 fn told<T: Tape>(at: &Moment<'_, T>, product: u32) -> Result<u32, Fail> {
     Ok(at.established(&Intrinsic, product)?.ticks())
@@ -14,7 +15,7 @@ fn told<T: Tape>(at: &Moment<'_, T>, product: u32) -> Result<u32, Fail> {
 #[test]
 fn the_average_and_its_window(rt: HostRuntime) -> Result<(), Fail> {
     let products = products(&[FUTURE])?;
-    let mut rows = [NO_TRADE; 2];
+    let mut rows = [TradeRow::default(); 2];
     let mut tape = RecordTape::new(Records(&mut rows));
     tape.add(trade(0, 100, 100, 10)?)?;
     tape.add(trade(0, 150, 101, 20)?)?;
@@ -47,7 +48,7 @@ fn the_average_and_its_window(rt: HostRuntime) -> Result<(), Fail> {
 fn later(reference: u32, records: u32, day: u32, table: &[OrderRow]) -> Result<u32, Fail> {
     let mut products = products(&[FUTURE])?;
     adjust(&mut products, 0, reference, records)?;
-    let mut rows = [NO_TRADE; 1];
+    let mut rows = [TradeRow::default(); 1];
     let mut tape = RecordTape::new(Records(&mut rows));
     tape.add(trade(0, 100, 6431, 50)?)?;
     let at = Moment {
@@ -76,7 +77,7 @@ fn month(spot: u32, own: u32, time: u32, table: &[OrderRow]) -> Result<u32, Fail
     let mut products = products(&[FUTURE; 2])?;
     adjust(&mut products, 0, spot, 0)?;
     adjust(&mut products, 1, own, 0)?;
-    let mut rows = [NO_TRADE; 1];
+    let mut rows = [TradeRow::default(); 1];
     let mut tape = RecordTape::new(Records(&mut rows));
     tape.add(trade(0, 100, 6440, 50)?)?;
     let at = Moment {

@@ -16,21 +16,6 @@ pub const FUTURE: Listed = Listed {
     no_bust: 20,
 };
 
-pub const NO_TRADE: TradeRow = TradeRow {
-    product: 0,
-    time: 0,
-    price: 0,
-    quantity: 0,
-    buy: 0,
-    sell: 0,
-    buyer: 0,
-    seller: 0,
-    established: 0,
-    no_bust: 0,
-    mark: 0,
-    day: 0,
-};
-
 pub fn option_on(right: Right, strike: u32, underlying: u32) -> Listed {
     Listed {
         kind: Kind::Option {
