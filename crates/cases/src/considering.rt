@@ -1,10 +1,9 @@
 // Cases: a trade is questioned, and the exchange decides.
-ghost use Rattle.std.specs.Prelude.{◌≡◌, ◌-◌, true, slice_set};
-ghost use Rattle.rules.specs.Calls.{request as requesting, determine as determining, case_on, told, done};
-ghost use Rattle.tape.specs.Tapes.{on_tape, record_at, marked};
+ghost use Rattle.std.specs.Prelude.{◌≡◌};
+ghost use Rattle.rules.specs.Calls.{request as requesting, determine as determining, case_on, told};
 ghost use Rattle.tape.specs.Trades.{row_of};
 ghost use Rattle.terms.specs.Checks.{answered, earliest};
-ghost use Rattle.cases.specs.Cases.{case_checks, request_fault, determination_fault, told_back, HandsBack};
+ghost use Rattle.cases.specs.Cases.{case_checks, determination_fault, told_back, HandsBack};
 ghost use Rattle.market.specs.Markets.{world_of, Follows};
 
 use crate::case::Case;
@@ -28,10 +27,10 @@ pub const REQUEST_SECONDS: u32 = 300;
 
 // Whether a case may be opened on a trade.
 #[tactic(auto, using(terms::proofs::Checked::price_is))]
-fn hold_case(trade: Trade, number: u32, participant: u32, time: u32) -> Result<(), Refusal>
-    ensures { result ≡ answered (earliest (case_checks (row_of trade) number participant time)) tt }
+fn hold_case(trade: Trade, number: u32, participant: Participant, time: u32) -> Result<(), Refusal>
+    ensures { result ≡ answered (earliest (case_checks (row_of trade) number participant.number time)) tt }
 {
-    if trade.buyer.number() != participant && trade.seller.number() != participant {
+    if trade.buyer != participant && trade.seller != participant {
         return Err(Refusal::NoSide(number));
     }
     if trade.mark != Mark::Stands {
@@ -79,7 +78,7 @@ pub fn request<M: PricingModel, T: Tape>(
     ensures { Follows (world_of M.PricingModel.tells T.Tape.records T.Tape.space market.old table.now tape.old) time (requesting participant number) (told (λ case. case_on case.trade) result) (world_of M.PricingModel.tells T.Tape.records T.Tape.space market.new table.now tape.new) }
 {
     hold_time(market.state, time)?;
-    let _ = Participant::try_from(participant)?;
+    let participant = Participant::try_from(participant)?;
     hold_case(trade_at(tape, number)?, number, participant, time)?;
     tape.mark(number, Mark::Considered).unwrap();
     market.state.time = time;
@@ -98,6 +97,7 @@ pub fn determine<M: PricingModel, T: Tape>(
     ensures rule { Follows (world_of M.PricingModel.tells T.Tape.records T.Tape.space market.old table.now tape.old) time (determining case.trade verdict) (told_back result) (world_of M.PricingModel.tells T.Tape.records T.Tape.space market.new table.now tape.new) }
     ensures back { HandsBack case result }
 {
+    // a closure for `map_err` would take the case
     if let Err(refusal) = hold_determination(market.state, tape, time, case.trade, verdict) {
         return Err((refusal, case));
     }

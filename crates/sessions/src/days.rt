@@ -1,10 +1,6 @@
 // The turns of a day: a new day rolls in, sessions open and close.
-ghost use Rattle.std.specs.Prelude.{◌≡◌, []};
 ghost use Rattle.rules.specs.Calls.{roll as rolling, open_session, close_session, done, removed, told};
-ghost use Rattle.rules.specs.Refusing.{fault};
-ghost use Rattle.terms.specs.Checks.{answered};
-ghost use Rattle.market.specs.Markets.{world_of, bare, Follows};
-ghost use Rattle.rules.specs.Turns.{turned_state};
+ghost use Rattle.market.specs.Markets.{world_of, Follows};
 
 use market::market::Market;
 use orders::close::Close;

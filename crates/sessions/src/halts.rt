@@ -1,9 +1,6 @@
 // Trading resumes.
-ghost use Rattle.std.specs.Prelude.{◌≡◌};
 ghost use Rattle.rules.specs.Calls.{resume as resuming, done, told};
-ghost use Rattle.rules.specs.Refusing.{fault};
-ghost use Rattle.terms.specs.Checks.{answered};
-ghost use Rattle.market.specs.Markets.{world_of, bare, Follows};
+ghost use Rattle.market.specs.Markets.{world_of, Follows};
 
 use market::market::Market;
 use orders::row::OrderRow;

@@ -1,10 +1,6 @@
 // One product's reference price and daily ticks.
-ghost use Rattle.std.specs.Prelude.{◌≡◌, []};
 ghost use Rattle.rules.specs.Calls.{adjust as adjusting, frenetic as widening, done, told};
-ghost use Rattle.rules.specs.Refusing.{fault};
-ghost use Rattle.terms.specs.Checked.{price_at};
-ghost use Rattle.terms.specs.Checks.{answered};
-ghost use Rattle.market.specs.Markets.{world_of, bare, Follows};
+ghost use Rattle.market.specs.Markets.{world_of, Follows};
 
 use market::market::Market;
 use orders::row::OrderRow;

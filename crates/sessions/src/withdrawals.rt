@@ -1,8 +1,6 @@
 // An order is withdrawn.
-ghost use Rattle.std.specs.Prelude.{◌≡◌};
 ghost use Rattle.rules.specs.Calls.{withdraw as withdrawing, left_with, told};
-ghost use Rattle.market.specs.Markets.{world_of, bare, Follows};
-ghost use Rattle.rules.specs.Owners.{Held};
+ghost use Rattle.market.specs.Markets.{world_of, Follows};
 
 use market::market::Market;
 use orders::resting::clear;
