@@ -90,6 +90,7 @@ impl<T: Tape> Moment<'_, T> {
         Some(self.corrected(n, self.last_worth(n, product)?))
     }
 
+    // The price of product 0.
     #[tactic(auto, unfolding(crate::specs::Established::established_spot, crate::specs::Established::established_from))]
     fn spot(&self) -> Price
         ensures { result.ticks ≡ established_spot self.now.products.now (moment_of T.Tape.records self.now) }
@@ -101,6 +102,7 @@ impl<T: Tape> Moment<'_, T> {
         }
     }
 
+    // The price of a future.
     #[tactic(auto, unfolding(crate::specs::Established::established_future, crate::specs::Established::established_from))]
     fn future(&self, n: u32, product: Product) -> Price
         requires listed { n < self.now.products.now.count }
@@ -137,6 +139,7 @@ impl<T: Tape> Moment<'_, T> {
         model.price(right, Price::try_from(strike).unwrap(), price)
     }
 
+    // The established market price of a product.
     #[tactic(auto, using(terms::proofs::Checked::price_is), unfolding(crate::specs::Established::established, crate::specs::Established::established_from))]
     pub fn established<M: PricingModel>(&self, model: &M, product: u32) -> Result<Price, Refusal>
         ensures answer { result ≡ answered (listed_check self.now.products.now product) (price_at (established self.now.products.now (moment_of T.Tape.records self.now) (M.PricingModel.tells model.now) product)) }
