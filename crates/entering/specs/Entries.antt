@@ -1,5 +1,6 @@
 -- An order on its way to the book: what stops it, and what it comes in as. Assumes nothing.
 use Rattle.std.specs.Prelude.{◌≡◌, ℕ, ◌+◌, not, List, [], ◌∷◌, ◌++◌, Some, None, Ok, Err, Option, Result}
+use Rattle.std.specs.Option.{option_map, unwrap_or}
 use Rattle.book.specs.declared.incoming.Incoming.{Incoming}
 use Rattle.rules.specs.Held.{listed_check}
 use Rattle.orders.specs.Rows.{duration_code, duration_date}
@@ -11,9 +12,7 @@ use Rattle.rules.specs.declared.new_order.NewOrder.{NewOrder}
 use Rattle.terms.specs.Checked.{price_at, quantity_at, participant_at}
 use Rattle.terms.specs.Checks.{earliest}
 use Rattle.terms.specs.Durations.{may_rest}
-use Rattle.terms.specs.declared.price.Price.{Price}
 use Rattle.terms.specs.declared.refusal.Refusal.{Refusal}
-use Rattle.terms.specs.declared.side.Side.{Side}
 use Rattle.entering.specs.declared.admitted.Admitted.{Admitted}
 use Rattle.entering.specs.declared.admitted.Numbers.{Numbers}
 
@@ -34,29 +33,31 @@ trading_checks w o = halt_check w o.product ∷ limit_held o.side o.limit (sweep
 abbrev pub front_checks : World → ℕ → NewOrder → List (Option Refusal)
 front_checks w time o = place_checks w time o ++ number_checks w.state.day o ++ trading_checks w o
 
+abbrev pub numbers_as : NewOrder → Numbers
+numbers_as o =
+    record {
+      limit = option_map price_at o.limit;
+      quantity = quantity_at o.quantity;
+      participant = participant_at o.participant;
+    }
+
 -- a market order is a limit order at its sweep price
-abbrev pub price_of : Option ℕ → Price → Price
-price_of None sweep = sweep
-price_of (Some ticks) sweep = price_at ticks
-
-abbrev pub numbers_as : NewOrder → Price → Numbers
-numbers_as o sweep =
-    record { limit = price_of o.limit sweep; quantity = quantity_at o.quantity; participant = participant_at o.participant }
-
 abbrev pub admitted_as : World → NewOrder → Admitted
 admitted_as w o =
     record {
       product = product_of w o.product;
-      numbers = numbers_as o (sweep_in w o.side o.product);
+      limit = unwrap_or (option_map price_at o.limit) (sweep_in w o.side o.product);
+      quantity = quantity_at o.quantity;
+      participant = participant_at o.participant;
     }
 
 -- an incoming order in plain numbers, under the stamp that it takes
-abbrev pub plain : Side → Incoming → ℕ → Arrival
-plain side i number =
+abbrev pub plain : Incoming → ℕ → Arrival
+plain i number =
     record {
       time = i.time;
       product = i.product;
-      side = side;
+      side = i.side;
       limit = i.limit.ticks;
       quantity = i.quantity.lots;
       whole = not (may_rest i.duration);
@@ -70,7 +71,7 @@ plain side i number =
 
 pub record ComesIn (w : World) (time : ℕ) (o : NewOrder) (i : Incoming) : Type 0 where
   pub passes : earliest (front_checks w time o) ≡ None
-  pub same : plain o.side i (w.state.stamp + 1) ≡ entry w time o
+  pub same : plain i (w.state.stamp + 1) ≡ entry w time o
   pub worth : i.established.ticks ≡ established_in w time o.product
   pub width : i.no_bust ≡ (product_of w o.product).listed.no_bust
 

@@ -4,15 +4,18 @@ use terms::participant::Participant;
 use terms::price::Price;
 use terms::quantity::Quantity;
 
-#[derive(Clone, Copy)]
+#[derive(Clone, Copy, PartialEq, Eq, Debug)]
 pub struct Numbers {
-    pub limit: Price,
+    // none for a market order
+    pub limit: Option<Price>,
     pub quantity: Quantity,
     pub participant: Participant,
 }
 
-#[derive(Clone, Copy)]
+#[derive(Clone, Copy, PartialEq, Eq, Debug)]
 pub struct Admitted {
     pub product: Product,
-    pub numbers: Numbers,
+    pub limit: Price,
+    pub quantity: Quantity,
+    pub participant: Participant,
 }

@@ -6,11 +6,10 @@ ghost use Rattle.entering.specs.Entries.{Admits};
 ghost use Rattle.market.specs.Markets.{world_of};
 
 use crate::admission::admit;
-use crate::admitted::Admitted;
 use crate::noted::note_arrival;
 use book::entering::enter as enter_book;
 use book::incoming::Incoming;
-use established::established::established;
+use established::moment::Moment;
 use market::market::Market;
 use orders::row::OrderRow;
 use pricing::model::PricingModel;
@@ -27,30 +26,29 @@ fn incoming<M: PricingModel, T: Tape>(
     time: u32,
     o: NewOrder,
 ) -> Result<Incoming, Refusal>
-where
-    Refusal: From<T::Fault>,
     ensures { Admits (world_of M.PricingModel.tells T.Tape.records T.Tape.space market.now table.now tape.now) time o result }
 {
-    let Admitted { product, numbers } = admit(market.state, &market.products, table, time, o)?;
-    let established = established(
-        &market.products,
-        &market.model,
+    let admitted = admit(market, table, time, o)?;
+    let day = market.state.day;
+    let moment = Moment {
+        products: &market.products,
         table,
         tape,
-        o.product,
-        market.state.day,
+        day,
         time,
-    )?;
+    };
+    let established = moment.established(&market.model, o.product)?;
     Ok(Incoming {
+        side: o.side,
         product: o.product,
-        participant: numbers.participant,
-        limit: numbers.limit,
-        quantity: numbers.quantity,
+        participant: admitted.participant,
+        limit: admitted.limit,
+        quantity: admitted.quantity,
         duration: o.duration,
         time,
-        day: market.state.day,
+        day,
         established,
-        no_bust: product.listed.no_bust,
+        no_bust: admitted.product.listed.no_bust,
     })
 }
 
@@ -62,8 +60,6 @@ pub fn enter<M: PricingModel, T: Tape>(
     time: u32,
     o: NewOrder,
 ) -> Result<Receipt, Refusal>
-where
-    Refusal: From<T::Fault>,
     ensures { Step (world_of M.PricingModel.tells T.Tape.records T.Tape.space market.old table.old tape.old) time (entering o) (told received result) (world_of M.PricingModel.tells T.Tape.records T.Tape.space market.new table.new tape.new) }
 {
     let incoming = incoming(market, table, tape, time, o)?;
@@ -73,23 +69,9 @@ where
         tape,
         market.products.count(),
         market.state.stamp,
-        o.side,
         incoming,
         range,
     )?;
-    let halt = note_arrival(
-        &mut market.state,
-        &mut market.products,
-        time,
-        done.number,
-        o.product,
-        done.halted,
-    );
-    Ok(Receipt {
-        number: done.number,
-        traded: done.traded,
-        rest: done.rest,
-        trades: done.trades,
-        halt,
-    })
+    let halt = note_arrival(market, time, done.number, o.product, done.halt);
+    Ok(done.with_halt(halt))
 }

@@ -7,54 +7,37 @@ ghost use Rattle.rules.specs.Worlds.{state_of};
 ghost use Rattle.terms.specs.declared.halt.Halt.TheVariants.{Nothing as no_halt};
 
 use listing::kind::Kind;
-use listing::products::Products;
-use rules::state::State;
+use market::market::Market;
 use terms::halt::Halt;
 
 // A future halts the whole market, an option only itself.
 fn halt_by(kind: Kind, halted: bool) -> Halt
     ensures { result ≡ halt_by kind halted }
 {
-    if !halted {
-        return Halt::Nothing;
-    }
     match kind {
+        _ if !halted => Halt::Nothing,
         Kind::Future => Halt::WholeMarket,
         Kind::Option { .. } => Halt::OneOption,
     }
 }
 
 // Its time, the stamp that it took, and the halt that it caused in its product; one that is not listed halts nothing.
-pub fn note_arrival(
-    state: &mut State,
-    products: &mut Products,
-    time: u32,
-    stamp: u32,
-    n: u32,
-    halted: bool,
-) -> Halt
-    ensures halt { result ≡ (if nat_lt n products.old.count then halt_by (product_in (contents products.old) n).listed.kind halted else no_halt) }
-    ensures state { state.new ≡ state_of state.old.phase state.old.day time stamp (halts_market result || state.old.halted) }
-    ensures products { contents products.new ≡ halting result n (contents products.old) }
+pub fn note_arrival<M>(market: &mut Market<M>, time: u32, stamp: u32, n: u32, halted: bool) -> Halt
+    ensures halt { result ≡ (if nat_lt n market.old.products.count then halt_by (product_in (contents market.old.products) n).listed.kind halted else no_halt) }
+    ensures state { market.new.state ≡ state_of market.old.state.phase market.old.state.day time stamp (halts_market result || market.old.state.halted) }
+    ensures products { contents market.new.products ≡ halting result n (contents market.old.products) }
+    ensures model { market.new.model ≡ market.old.model }
 {
-    let halt = match products.product(n) {
-        Ok(product) => halt_by(product.listed.kind, halted),
-        Err(_) => Halt::Nothing,
-    };
-    let mut whole = state.halted;
+    let halt = market.products.product(n).map_or(
+        Halt::Nothing,
+        |product| halt_by(product.listed.kind, halted),
+    );
     match halt {
         Halt::Nothing => {}
-        Halt::OneOption => {
-            let _ = products.halt(n);
-        }
-        Halt::WholeMarket => whole = true,
+        Halt::OneOption => market.products.halt(n).unwrap(),
+        Halt::WholeMarket => market.state.halted = true,
     }
-    *state = State {
-        phase: state.phase,
-        day: state.day,
-        time,
-        stamp,
-        halted: whole,
-    };
+    market.state.time = time;
+    market.state.stamp = stamp;
     halt
 }

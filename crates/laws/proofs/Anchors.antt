@@ -17,7 +17,8 @@ use Rattle.terms.specs.declared.side.Side.{Side}
 use Rattle.terms.specs.declared.side.Side.TheVariants.{Buy, Sell}
 use Rattle.rules.specs.Entering.{limit_or}
 use Rattle.rules.specs.Refusing.{limit_check, limit_held}
-use Rattle.rules.specs.Worlds.{World, product_of, range_in, best_facing, sweep_in}
+use Rattle.orders.specs.Questions.{best_facing}
+use Rattle.rules.specs.Worlds.{World, product_of, range_in, sweep_in}
 use Rattle.rules.specs.declared.new_order.NewOrder.{NewOrder}
 use Rattle.laws.specs.Arriving.{InForce, Anchor, best, none_waits, Sweeps, Furthest, OwnPrice}
 use Rattle.laws.specs.Book.{row_at, waits, Within}

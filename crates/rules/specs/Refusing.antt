@@ -1,12 +1,12 @@
 -- What each call is refused for, in the order in which it is tested. Assumes nothing.
 use Rattle.std.specs.Prelude.{ℕ, ◌+◌, ◌-◌, Bool, true, false, not, ◌&&◌, ◌||◌, List, [], ◌∷◌, map, length, Some, None, Option, ◌==◌, nat_le, nat_lt}
 use Rattle.std.specs.List.{range_with_len}
-use Rattle.std.specs.Option.{unwrap_or}
+use Rattle.std.specs.Option.{option_map, unwrap_or}
 use Rattle.book.specs.Entries.{any_free}
 use Rattle.terms.specs.Stamps.{last_stamp}
 use Rattle.book.specs.Sweeps.{takes}
 use Rattle.established.specs.Verdicts.{verdict_on}
-use Rattle.limits.specs.Sweeps.{sweep_check}
+use Rattle.limits.specs.Sweeps.{limit_held as held_to_sweep}
 use Rattle.listing.specs.Changes.{frenetic_check}
 use Rattle.rules.specs.Held.{settle_check, products_of, listed_check}
 use Rattle.listing.specs.Questions.{any_halted}
@@ -78,8 +78,7 @@ owner_check w participant number = unless (rests_for w participant number) (NotR
 
 -- 11: a limit beyond the sweep price; a market order has none
 abbrev pub limit_held : Side → Option ℕ → Price → Option Refusal
-limit_held side None sweep = None
-limit_held side (Some price) sweep = sweep_check side (price_at price) sweep
+limit_held side limit sweep = held_to_sweep side (option_map price_at limit) sweep
 
 -- an amended price, if it is new
 abbrev pub amended_limit : Bool → ℕ → Option ℕ

@@ -1,5 +1,5 @@
 -- What a call finds and leaves: the market's state and products, its pricing model, the order table and the tape. Assumes nothing.
-use Rattle.std.specs.Prelude.{ℕ, Bool, true, false, not, ◌&&◌, ◌||◌, List, Option}
+use Rattle.std.specs.Prelude.{ℕ, Bool, true, false, not, ◌&&◌, ◌||◌, List}
 use Rattle.established.specs.Established.{moment}
 use Rattle.rules.specs.Worth.{established}
 use Rattle.limits.specs.declared.range.Range.{Range}
@@ -7,7 +7,7 @@ use Rattle.listing.specs.Changes.{Contents}
 use Rattle.listing.specs.Questions.{range_of, sweep_of}
 use Rattle.rules.specs.Held.{product_in}
 use Rattle.listing.specs.declared.product.Product.{Product}
-use Rattle.orders.specs.Questions.{best_buy, best_sell}
+use Rattle.orders.specs.Questions.{best_facing}
 use Rattle.orders.specs.declared.row.OrderRow.{OrderRow}
 use Rattle.tape.specs.declared.row.TradeRow.{TradeRow}
 use Rattle.terms.specs.declared.phase.Phase.{Phase}
@@ -15,7 +15,6 @@ use Rattle.terms.specs.declared.phase.Phase.TheVariants.{Closed, BeforeNight, Ni
 use Rattle.terms.specs.declared.price.Price.{Price}
 use Rattle.terms.specs.declared.right.Right.{Right}
 use Rattle.terms.specs.declared.side.Side.{Side}
-use Rattle.terms.specs.declared.side.Side.TheVariants.{Buy, Sell}
 use Rattle.rules.specs.declared.state.State.{State}
 
 pub record World : Type 0 where
@@ -91,11 +90,6 @@ is_open w n = in_session w.state.phase && not (is_halted w n)
 
 abbrev pub range_in : World → ℕ → Range
 range_in w n = range_of (product_of w n)
-
--- what an order of a side would trade with first
-abbrev pub best_facing : Side → ℕ → List OrderRow → Option Price
-best_facing Buy n table = best_sell n table
-best_facing Sell n table = best_buy n table
 
 abbrev pub sweep_in : World → Side → ℕ → Price
 sweep_in w side n = sweep_of side (best_facing side n w.table) (product_of w n)
