@@ -31,13 +31,16 @@ abbrev pub early_checks : World → ℕ → Amendment → List (Option Refusal)
 early_checks w time m =
     (call_checks w time ++ terms_checks m) ++ owner_check w m.participant m.order ∷ sweep_check_of w m ∷ []
 
-pub record Amends (w : World) (time : ℕ) (m : Amendment) (a : Amended) : Type 0 where
-  pub passes : earliest (early_checks w time m) ≡ None
-  pub found : place_of w m.order ≡ Some (slot_of a.entry)
-  pub within : a.entry.index < length w.table
-  pub listed : a.entry.order.product < w.products.count
-  pub product : a.product ≡ product_of w a.entry.order.product
-  pub terms : a.terms ≡ terms_as m
+abbrev pub Amends : World → ℕ → Amendment → Amended → Type 0
+Amends w time m a =
+    record {
+      passes : earliest (early_checks w time m) ≡ None;
+      found : place_of w m.order ≡ Some (slot_of a.entry);
+      within : a.entry.index < length w.table;
+      listed : a.entry.order.product < w.products.count;
+      product : a.product ≡ product_of w a.entry.order.product;
+      terms : a.terms ≡ terms_as m;
+    }
 
 -- it is stopped, or this order becomes so
 abbrev pub MayAmend : World → ℕ → Amendment → Result Amended Refusal → Type 0
@@ -46,12 +49,14 @@ MayAmend w time m (Err refusal) = earliest (early_checks w time m) ≡ Some refu
 
 -- the order as it arrives at its new price
 pub record ArrivesAs (w : World) (time : ℕ) (a : Amended) (r : Arriving) : Type 0 where
-  pub product : r.product ≡ a.entry.order.product
   pub number : r.number ≡ a.entry.order.number
-  pub participant : r.participant ≡ a.entry.order.participant
-  pub limit : r.limit ≡ a.terms.price
-  pub quantity : r.quantity ≡ a.terms.quantity
-  pub at : r.time ≡ time
-  pub today : r.day ≡ w.state.day
-  pub worth : r.established.ticks ≡ established_in w time a.entry.order.product
-  pub width : r.no_bust ≡ (product_of w a.entry.order.product).listed.no_bust
+  pub side : r.order.side ≡ a.entry.order.side
+  pub product : r.order.product ≡ a.entry.order.product
+  pub participant : r.order.participant ≡ a.entry.order.participant
+  pub limit : r.order.limit ≡ a.terms.price
+  pub quantity : r.order.quantity ≡ a.terms.quantity
+  pub duration : r.order.duration ≡ a.entry.order.duration
+  pub at : r.order.time ≡ time
+  pub today : r.order.day ≡ w.state.day
+  pub worth : r.order.established.ticks ≡ established_in w time a.entry.order.product
+  pub width : r.order.no_bust ≡ (product_of w a.entry.order.product).listed.no_bust

@@ -1,116 +1,50 @@
 // An order is amended.
-ghost use Rattle.std.specs.Prelude.{◌≡◌, ◌+◌, ◌<◌, ◌≤◌, Bool, not, ◌&&◌, ◌||◌, if◌then◌else◌, nat_lt};
-ghost use Rattle.book.specs.Entries.{last_stamp};
-ghost use Rattle.established.specs.Established.{moment};
-ghost use Rattle.rules.specs.Worth.{established as established_price};
+ghost use Rattle.std.specs.Prelude.{◌≡◌, ◌+◌, ◌<◌, not, ◌||◌, if◌then◌else◌, nat_lt, MatchOption};
 ghost use Rattle.listing.specs.Changes.{contents};
-ghost use Rattle.rules.specs.Held.{product_in};
-ghost use Rattle.orders.specs.Orders.{row_of};
-ghost use Rattle.returning.specs.Returns.{come_back_row};
 ghost use Rattle.rules.specs.Calls.{amend as amending, received, told};
+ghost use Rattle.rules.specs.Held.{product_in};
 ghost use Rattle.rules.specs.Rules.{Step};
-ghost use Rattle.rules.specs.Worlds.{in_session};
-ghost use Rattle.terms.specs.Checked.{lots_left};
 ghost use Rattle.terms.specs.Checks.{answered, unless};
+ghost use Rattle.terms.specs.Stamps.{last_stamp, stamp_at};
 ghost use Rattle.terms.specs.declared.refusal.Refusal.TheVariants.{Exhausted as used_up};
 ghost use Rattle.amending.specs.Amendments.{ArrivesAs};
 ghost use Rattle.market.specs.Markets.{world_of};
 
-use crate::amended::{Amended, Terms};
+use crate::amended::Amended;
 use crate::asking::amendable;
 use book::arriving::Arriving;
+use book::incoming::Incoming;
+use book::sweep::lots;
 use entering::noted::note_arrival;
-use established::established::established;
-use listing::product::Product;
-use listing::products::Products;
+use established::moment::Moment;
 use market::market::Market;
-use orders::order::Order;
 use orders::resting::put;
 use orders::row::OrderRow;
 use pricing::model::PricingModel;
 use returning::come_back;
 use rules::amendment::Amendment;
-use rules::phases::in_session;
 use rules::receipt::Receipt;
-use rules::state::State;
 use tape::Tape;
 use terms::halt::Halt;
-use terms::price::Price;
-use terms::quantity::Quantity;
 use terms::refusal::Refusal;
+use terms::stamp::Stamp;
 
-// Whether a product trades.
-fn is_open(state: State, product: Product) -> bool
-    ensures { result ≡ (in_session state.phase && not (state.halted || product.halted)) }
+// The stamp that an amendment takes, if it takes one.
+fn stamp_taken(last: u32, takes: bool) -> Result<Option<Stamp>, Refusal>
+    ensures { result ≡ answered (unless (not takes || nat_lt last last_stamp) used_up) (if takes then Some (stamp_at (last + 1)) else None) }
 {
-    in_session(state.phase) & !(state.halted | product.halted)
-}
-
-// The last stamp given, once an amendment took one if it needs to.
-fn stamp_after(stamp: u32, takes: bool) -> Result<u32, Refusal>
-    ensures { result ≡ answered (unless (not takes || nat_lt stamp last_stamp) used_up) (if takes then stamp + 1 else stamp) }
-{
-    if !takes {
-        return Ok(stamp);
-    }
-    match stamp.checked_add(1) {
-        Some(next) => Ok(next),
-        None => Err(Refusal::Exhausted),
+    if takes {
+        Stamp::after(last).map(Some).ok_or(Refusal::Exhausted)
+    } else {
+        Ok(None)
     }
 }
 
-// The same order on new terms, at a place in time.
-fn changed(order: Order, place: u32, terms: Terms) -> Order
-    requires { 1 ≤ place }
-    ensures { row_of result ≡ come_back_row (row_of order) place terms.price.ticks terms.quantity.lots }
+// The last stamp given, once this one is taken.
+fn last_given(last: u32, taken: Option<Stamp>) -> u32
+    ensures { MatchOption taken (result ≡ last) (λ stamp. result ≡ stamp.number) }
 {
-    Order {
-        number: order.number,
-        place,
-        product: order.product,
-        side: order.side,
-        price: terms.price,
-        rest: terms.quantity,
-        participant: order.participant,
-        duration: order.duration,
-        entered: order.entered,
-    }
-}
-
-fn place_after(takes: bool, stamp: u32, order: Order) -> u32
-    ensures { result ≡ (if takes then stamp else order.place) }
-{
-    if takes { stamp } else { order.place }
-}
-
-fn lots(rest: Option<Quantity>) -> u32
-    ensures { result ≡ lots_left rest }
-{
-    match rest {
-        Some(quantity) => quantity.lots(),
-        None => 0,
-    }
-}
-
-// The established market price of a product that is listed.
-fn worth_of<M: PricingModel, T: Tape>(
-    products: &Products,
-    model: &M,
-    table: &[OrderRow],
-    tape: &T,
-    n: u32,
-    day: u32,
-    time: u32,
-) -> Price
-where
-    Refusal: From<T::Fault>,
-    requires { n < products.now.count }
-    ensures { result.ticks ≡ established_price (contents products.now) (moment table.now (T.Tape.records tape.now) day time) (M.PricingModel.tells model.now) n }
-{
-    match established(products, model, table, tape, n, day, time) {
-        Ok(price) => price,
-        Err(_) => unreachable(),
-    }
+    taken.map_or(last, Stamp::number)
 }
 
 // The amended order as it arrives at its new price.
@@ -121,32 +55,33 @@ fn arriving<M: PricingModel, T: Tape>(
     time: u32,
     a: Amended,
 ) -> Arriving
-where
-    Refusal: From<T::Fault>,
     requires listed { a.entry.order.product < market.now.products.count }
     requires product { a.product ≡ product_in (contents market.now.products) a.entry.order.product }
     ensures { ArrivesAs (world_of M.PricingModel.tells T.Tape.records T.Tape.space market.now table.now tape.now) time a result }
 {
     let order = a.entry.order;
-    let established = worth_of(
-        &market.products,
-        &market.model,
+    let day = market.state.day;
+    let moment = Moment {
+        products: &market.products,
         table,
         tape,
-        order.product,
-        market.state.day,
+        day,
         time,
-    );
+    };
     Arriving {
-        product: order.product,
         number: order.number,
-        participant: order.participant,
-        limit: a.terms.price,
-        quantity: a.terms.quantity,
-        time,
-        day: market.state.day,
-        established,
-        no_bust: a.product.listed.no_bust,
+        order: Incoming {
+            side: order.side,
+            product: order.product,
+            participant: order.participant,
+            limit: a.terms.price,
+            quantity: a.terms.quantity,
+            duration: order.duration,
+            time,
+            day,
+            established: moment.established(&market.model, order.product).unwrap(),
+            no_bust: a.product.listed.no_bust,
+        },
     }
 }
 
@@ -158,45 +93,35 @@ pub fn amend<M: PricingModel, T: Tape>(
     time: u32,
     m: Amendment,
 ) -> Result<Receipt, Refusal>
-where
-    Refusal: From<T::Fault>,
     ensures { Step (world_of M.PricingModel.tells T.Tape.records T.Tape.space market.old table.old tape.old) time (amending m) (told received result) (world_of M.PricingModel.tells T.Tape.records T.Tape.space market.new table.new tape.new) }
 {
-    let a = amendable(market.state, &market.products, table, time, m)?;
+    let a = amendable(market, table, time, m)?;
     let order = a.entry.order;
-    let new_price = a.terms.price.ticks() != order.price.ticks();
-    if new_price & is_open(market.state, a.product) {
+    if a.arrives_again(market.state) {
         let arriving = arriving(market, table, tape, time, a);
         let range = market.products.range(order.product)?;
         let swept = come_back(table, tape, market.state.stamp, a.entry, arriving, range)?;
         let stamp = market.state.stamp + 1;
-        let halt = note_arrival(
-            &mut market.state,
-            &mut market.products,
-            time,
-            stamp,
-            order.product,
-            swept.halted,
-        );
+        let halt = note_arrival(market, time, stamp, order.product, swept.halted);
         return Ok(Receipt {
-            number: order.number,
+            number: order.number.number(),
             traded: swept.traded,
             rest: lots(swept.rest),
             trades: swept.trades,
             halt,
         });
     }
-    let takes = new_price | (a.terms.quantity.lots() > order.rest.lots());
-    let stamp = stamp_after(market.state.stamp, takes)?;
-    let place = place_after(takes, stamp, order);
-    put(table, a.entry.index, changed(order, place, a.terms));
-    market.state = State {
-        time,
-        stamp,
-        ..market.state
-    };
+    let stamp = stamp_taken(market.state.stamp, a.takes_stamp())?;
+    let place = stamp.unwrap_or(order.place);
+    put(
+        table,
+        a.entry.index,
+        order.moved(place, a.terms.price, a.terms.quantity),
+    );
+    market.state.time = time;
+    market.state.stamp = last_given(market.state.stamp, stamp);
     Ok(Receipt {
-        number: order.number,
+        number: order.number.number(),
         traded: 0,
         rest: a.terms.quantity.lots(),
         trades: 0,

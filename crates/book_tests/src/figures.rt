@@ -13,21 +13,6 @@ use terms::price::Price;
 use terms::refusal::Refusal;
 use terms::side::Side;
 
-const BLANK: TradeRow = TradeRow {
-    product: 0,
-    time: 0,
-    price: 0,
-    quantity: 0,
-    buy: 0,
-    sell: 0,
-    buyer: 0,
-    seller: 0,
-    established: 0,
-    no_bust: 0,
-    mark: 0,
-    day: 0,
-};
-
 fn limit(side: Side, quantity: u32, price: u32) -> Order {
     Order {
         side,
@@ -77,7 +62,7 @@ fn numbers(r: Receipt<bool>) -> (u32, u32, u32, bool) {
 // The one order against the published book, with another reference price once the book stands.
 fn against_book(reference: u32, order: Order) -> Result<(u32, u32, u32, bool), Fail> {
     let mut table = [OrderRow::FREE; 6];
-    let mut rows = [BLANK; 4];
+    let mut rows = [TradeRow::default(); 4];
     let mut tape = RecordTape::new(Records(&mut rows));
     let mut desk = listed(6431)?;
     publish(&mut desk, &mut table, &mut tape)?;
@@ -108,7 +93,7 @@ fn a_match_outside_the_range_halts(rt: HostRuntime) -> Result<(), Fail> {
 #[test]
 fn with_no_sells_a_market_buy_rests_at_its_sweep_price(rt: HostRuntime) -> Result<(), Fail> {
     let mut table = [OrderRow::FREE; 2];
-    let mut rows = [BLANK; 1];
+    let mut rows = [TradeRow::default(); 1];
     let mut tape = RecordTape::new(Records(&mut rows));
     let mut desk = listed(6431)?;
     assert_eq!(rt;
@@ -128,7 +113,7 @@ fn told(refusal: Refusal) -> (u32, u32) {
 #[test]
 fn a_full_table_and_a_full_tape_are_told(rt: HostRuntime) -> Result<(), Fail> {
     let mut table = [OrderRow::FREE; 5];
-    let mut rows = [BLANK; 1];
+    let mut rows = [TradeRow::default(); 1];
     let mut tape = RecordTape::new(Records(&mut rows));
     let mut desk = listed(6431)?;
     publish(&mut desk, &mut table, &mut tape)?;

@@ -1,5 +1,5 @@
 -- An entry that nothing stopped comes in with the numbers that it brought. Assumes nothing.
-use Rattle.std.proofs.Common.{◌≡◌, ℕ, ◌+◌, ◌<◌, ◌≤◌, not, leb, List, [], ◌∷◌, ◌++◌, Some, None, Ok, Err, Option, refl, ap, ◌∙◌}
+use Rattle.std.proofs.Common.{◌≡◌, ℕ, ◌+◌, ◌<◌, ◌≤◌, not, leb, List, [], ◌∷◌, ◌++◌, Some, None, Ok, Err, Option, refl, ap, ◌∙◌, arith}
 use Rattle.std.proofs.lemmas.Bool.{leb-true, ltb-true, and_parts, not-false}
 use Rattle.std.specs.Option.{option_map, unwrap_or}
 use Rattle.listing.specs.Changes.{contents}
@@ -13,7 +13,12 @@ use Rattle.rules.specs.Entering.{entry, limit_or}
 use Rattle.rules.specs.Refusing.{limit_check}
 use Rattle.rules.specs.Worlds.{World, sweep_in}
 use Rattle.rules.specs.declared.new_order.NewOrder.{NewOrder}
+use Rattle.established.specs.Established.{Moment, established as landed}
+use Rattle.rules.proofs.Prices.{same_price}
+use Rattle.rules.specs.Worth.{established}
 use Rattle.terms.specs.Checked.{price_at}
+use Rattle.terms.specs.Ranges.{highest_price}
+use Rattle.terms.specs.declared.right.Right.{Right}
 use Rattle.terms.specs.Checks.{answered, earliest}
 use Rattle.terms.specs.Durations.{may_rest}
 use Rattle.terms.specs.declared.price.Price.{Price}
@@ -48,6 +53,12 @@ no_bust_fits ps n h =
     let whole = not-false _ (ps.sound n h) in
     let ticks = (and_parts (ticks_fit (entries ps.rows n)) (kind_fits (entries ps.rows) n (entries ps.rows n).kind) whole).0 in
     leb-true _ _ (and_parts _ (leb (entries ps.rows n).no_bust 100000) ticks).1
+
+-- the established price that was told of a listed product
+pub worth_told : (ps : Products) (m : Moment) (tells : Right → ℕ → ℕ → ℕ) (n : ℕ) (p : Price) → Ok p ≡ answered (listed_check (contents ps) n) (price_at (landed ps m tells n)) →
+    (n < ps.count → landed ps m tells n ≤ highest_price) → n < ps.count → p.ticks ≡ established (contents ps) m tells n
+worth_told ps m tells n p told whole listed =
+    ap (λ (p : Price). p.ticks) (passes_with _ _ p told).1 ∙ omega (arith, whole listed) ∙ same_price ps m tells n
 
 limit_is : (limit : Option ℕ) (sweep : Price) → limit_check limit ≡ None → (unwrap_or (option_map price_at limit) sweep).ticks ≡ limit_or limit sweep.ticks
 limit_is None sweep e = refl

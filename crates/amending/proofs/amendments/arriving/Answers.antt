@@ -1,11 +1,22 @@
-use Rattle.std.proofs.Common.{ap, arith}
+use Rattle.std.proofs.Common.{sym, ap, ◌∙◌, refl}
+use Rattle.established.specs.Established.{moment}
 use Rattle.listing.specs.declared.product.Product.{Product}
-use Rattle.entering.proofs.Fronts.{no_bust_fits}
+use Rattle.entering.proofs.Fronts.{worth_told}
 use Rattle.amending.proofs.amendments.arriving.Goals as goal
 
-pub invariant_of-result : goal.invariant_of-result
-invariant_of-result g c =
-    let ps = c.args.market.now.products in
-    let order = c.args.a.entry.order in
-    let width = ap (λ (p : Product). p.listed.no_bust) c.requires.product in
-    record { listed = omega (arith, c.requires.listed, ps.few); numbered = order.numbered; narrow = omega (arith, width, no_bust_fits ps order.product c.requires.listed) }
+pub returns : goal.returns
+returns g c =
+    let m = c.args.market.now in
+    record {
+      number = refl;
+      side = refl;
+      product = refl;
+      participant = refl;
+      limit = refl;
+      quantity = refl;
+      duration = refl;
+      at = refl;
+      today = refl;
+      worth = worth_told m.products (moment c.args.table.now (g.T.Tape.records c.args.tape.now) m.state.day c.args.time) (g.M.PricingModel.tells m.model) c.args.a.entry.order.product _ (sym c.unwrap.ensures ∙ c.established.ensures.answer) c.established.ensures.whole c.requires.listed;
+      width = ap (λ (p : Product). p.listed.no_bust) c.requires.product;
+    }

@@ -1,12 +1,9 @@
-use Rattle.std.proofs.Common.{◌≡◌, ap, ◌∙◌, arith}
+use Rattle.std.proofs.Common.{ap, arith}
 use Rattle.std.proofs.lemmas.Result.{err_from_is_err_and}
-use Rattle.established.specs.Established.{moment, established}
-use Rattle.rules.proofs.Prices.{same_price}
-use Rattle.terms.specs.Checked.{price_at}
-use Rattle.terms.specs.declared.price.Price.{Price}
+use Rattle.established.specs.Established.{moment}
 use Rattle.entering.specs.Entries.{front_checks}
 use Rattle.entering.specs.declared.admitted.Admitted.{Admitted}
-use Rattle.entering.proofs.Fronts.{all_passed, listed_below, no_bust_fits, comes_in_as}
+use Rattle.entering.proofs.Fronts.{all_passed, listed_below, no_bust_fits, worth_told, comes_in_as}
 use Rattle.market.specs.Markets.{world_of}
 use Rattle.market.proofs.Ways.{fails_with, passes_with}
 use Rattle.entering.proofs.entries.incoming.Goals as goal
@@ -32,12 +29,9 @@ returns g c =
     let pass = passes_with _ _ _ c.in_ok-admitted.ensures in
     let ps = c.args.market.now.products in
     let below = listed_below ps o.product (all_passed (front_checks w c.args.time o) pass.0).1.1.0 in
-    let e = c.in_ok-established.ensures in
-    let m = moment w.table w.tape w.state.day c.args.time in
-    let told : c.in_ok-established.established ≡ price_at (established ps m w.tells o.product) = (passes_with _ _ _ e.answer).1 in
     record {
       passes = pass.0;
       same = comes_in_as w c.args.time o _ pass.0 pass.1;
-      worth = ap (λ (p : Price). p.ticks) told ∙ omega (arith, e.whole below) ∙ same_price ps m w.tells o.product;
+      worth = worth_told ps (moment w.table w.tape w.state.day c.args.time) w.tells o.product _ c.in_ok-established.ensures.answer c.in_ok-established.ensures.whole below;
       width = ap (λ (a : Admitted). a.product.listed.no_bust) pass.1;
     }
