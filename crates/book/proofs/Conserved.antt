@@ -1,6 +1,5 @@
 -- A walk neither makes nor loses a lot. Assumes nothing.
-use Rattle.std.proofs.Common.{◌≡◌, ℕ, ◌+◌, ◌-◌, min, Bool, true, false, cond, not, ◌&&◌, eqb, List, [], ◌∷◌, ◌++◌, map, length, is_some, Some, None, Option, sym, refl, ap, ◌∙◌, arith}
-use Rattle.std.proofs.lemmas.List.{append-nil}
+use Rattle.std.proofs.Common.{◌≡◌, ℕ, ◌+◌, ◌-◌, min, Bool, true, false, cond, not, ◌&&◌, eqb, List, [], ◌∷◌, ◌++◌, map, length, is_some, Some, None, Option, refl, ap, ◌∙◌, arith}
 use Rattle.std.proofs.lemmas.List.Sums.{sum_by-cons}
 use Rattle.std.proofs.lemmas.Bool.{cond_both, ne_eqb}
 use Rattle.limits.specs.Ranges.{tradeable}
@@ -45,25 +44,7 @@ not_killed whole w trades e n = go (whole && not (eqb w.rest 0)) refl
     go true h = absurd (n (e ∙ ap length (ap (λ b. (cond b killed w).fills) h)))
     go false h = ap (λ b. cond b killed w) h
 
-pub no_fills : (fills : List Fill) → length fills ≡ 0 → fills ≡ []
-no_fills [] h = refl
-no_fills (f ∷ fills) h = absurd (let z : ⊥ = omega arith in z)
-
 module _ {T : Type 0} (records : T → List TradeRow) (space : T → ℕ) (code : ℕ) (a : Arriving) (w : Walk) (table : List OrderRow) (tape : T) (answer : Swept) where
-  -- a walk without a fill leaves everything as it was
-  pub made_none : takes (space tape) (records tape) a.order.time answer.trades ≡ true → answer.trades ≡ 0 → answer.trades ≡ length w.fills → answer.traded ≡ 0 → lots_left answer.rest ≡ w.rest → answer.halted ≡ w.halted → Made records space code a w table tape answer table tape
-  made_none fits none trades traded rest halted =
-      let empty = no_fills w.fills (sym trades ∙ none) in
-      record {
-        fits = rw (← trades) fits;
-        reduced = rw empty;
-        written = rw empty (sym (append-nil (records tape)));
-        traded = rw empty traded;
-        rest = rest;
-        trades = trades;
-        halted = halted;
-      }
-
   pub made_run : (q : ℕ) (table' : List OrderRow) (tape' : T) → Conserves q w → takes (space tape) (records tape) a.order.time (length w.fills) ≡ true → table' ≡ filled w.fills table → records tape' ≡ records tape ++ map (trade_by code a) w.fills → answer.traded ≡ q - lots_left answer.rest → lots_left answer.rest ≡ w.rest → answer.trades ≡ length w.fills → answer.halted ≡ w.halted → Made records space code a w table tape answer table' tape'
   made_run q table' tape' conserves fits reduced written traded rest trades halted =
       record { fits = fits; reduced = reduced; written = written; traded = omega (arith, conserves, traded, rest); rest = rest; trades = trades; halted = halted }

@@ -1,13 +1,13 @@
 -- An incoming order under its number. Assumes nothing.
-use Rattle.std.proofs.Common.{◌≡◌, ℕ, ◌+◌, ◌<◌, ◌≤◌, Bool, true, false, cond, not, eqb, ltb, List, Some, None, refl, subst, arith}
-use Rattle.std.proofs.lemmas.Bool.{eqb-true, ltb-true, ltb-false}
+use Rattle.std.proofs.Common.{◌≡◌, ℕ, ◌+◌, ◌<◌, ◌≤◌, Bool, true, false, cond, not, ltb, List, Some, None, refl, subst, arith}
+use Rattle.std.proofs.lemmas.Bool.{ltb-true, ltb-false}
 use Rattle.limits.specs.declared.range.Range.{Range}
 use Rattle.orders.specs.declared.row.OrderRow.{OrderRow}
 use Rattle.terms.specs.Durations.{may_rest}
 use Rattle.terms.specs.Stamps.{last_stamp, stamp_at, stamp_after}
 use Rattle.terms.specs.declared.stamp.Stamp.{Stamp}
 use Rattle.book.specs.Entries.{arriving_as, planned}
-use Rattle.book.specs.Sweeps.{due, killed}
+use Rattle.book.specs.Sweeps.{due}
 use Rattle.book.specs.Walks.{Walk, matching}
 use Rattle.book.specs.declared.arriving.Arriving.{Arriving}
 use Rattle.book.specs.declared.incoming.Incoming.{Incoming}
@@ -32,12 +32,3 @@ pub as_planned : (P : Arriving → Walk → Type 0) (reaches : ℕ → ℕ → B
 as_planned P reaches code first o stamp number range table rests e n h =
     subst (λ (s : Stamp). P (record { number = s; order = o }) (planned reaches code first o range table)) n
     (subst (λ (b : Bool). P (record { number = number; order = o }) (due (not b) (matching reaches code first o range table))) e h)
-
--- only an order that may rest has something left
-pub left_rests : (rests : Bool) (w : Walk) → 0 < (due (not rests) w).rest → rests ≡ true
-left_rests true w h = refl
-left_rests false w h = go (eqb w.rest 0) refl h
-  where
-    go : (b : Bool) → eqb w.rest 0 ≡ b → 0 < (cond (not b) killed w).rest → false ≡ true
-    go true e k = absurd (let z : ⊥ = omega (arith, eqb-true w.rest 0 e) in z)
-    go false e k = absurd (let z : ⊥ = omega arith in z)

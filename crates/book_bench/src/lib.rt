@@ -2,29 +2,39 @@
 #![tactic(auto)]
 
 use book::arriving::Arriving;
+use book::incoming::Incoming;
 use book::sweep::sweep;
-use byte_tape::ByteTape;
+use byte_tape::{ByteTape, Bytes};
 use limits::range::Range;
 use orders::row::OrderRow;
 use orders::side::Sells;
-use terms::participant::Participant;
+use terms::duration::Duration;
+use terms::field::Field;
 use terms::price::Price;
-use terms::quantity::Quantity;
+use terms::side::Side;
+use terms::stamp::Stamp;
 
-fn arriving(limit: u32, lots: u32) -> Option<Arriving> {
-    let participant = Participant::try_from(7).ok()?;
-    let limit = Price::try_from(limit).ok()?;
-    let quantity = Quantity::try_from(lots).ok()?;
-    Some(Arriving {
+fn incoming(limit: u32, lots: u32) -> Result<Incoming, Field> {
+    let limit = Price::try_from(limit)?;
+    Ok(Incoming {
+        side: Side::Buy,
         product: 0,
-        number: 1,
-        participant,
+        participant: 7.try_into()?,
         limit,
-        quantity,
+        quantity: lots.try_into()?,
+        duration: Duration::UntilCancelled,
         time: 0,
         day: 0,
         established: limit,
         no_bust: 0,
+    })
+}
+
+// The first order of its market.
+fn arriving(limit: u32, lots: u32) -> Option<Arriving> {
+    Some(Arriving {
+        number: Stamp::after(0)?,
+        order: incoming(limit, lots).ok()?,
     })
 }
 
@@ -36,15 +46,14 @@ pub extern "C" fn book_bench_run(
     limit: u32,
     lots: u32,
 ) -> u64 {
-    let Some(a) = arriving(limit, lots) else {
+    let Some(arriving) = arriving(limit, lots) else {
         return 0;
     };
-    let mut tape = ByteTape::new(bytes);
+    let mut tape = ByteTape::new(Bytes(bytes));
     let range = Range::around(Price::ZERO, Price::HIGHEST);
-    match sweep::<Sells, ByteTape>(table, &mut tape, a, range, false) {
-        Ok(swept) => u64::from(swept.traded)
+    sweep::<Sells, ByteTape>(table, &mut tape, arriving, range, false).map_or(0, |swept| {
+        u64::from(swept.traded)
             .wrapping_mul(1_000_000)
-            .wrapping_add(u64::from(swept.trades)),
-        Err(_) => 0,
-    }
+            .wrapping_add(u64::from(swept.trades))
+    })
 }

@@ -3,29 +3,15 @@ use book::outcome::Receipt;
 use console::command::Order;
 use desk::desk::Desk;
 use orders::row::OrderRow;
-use record_tape::RecordTape;
+use record_tape::{RecordTape, Records};
 use std::test::Fail;
 use tape::Tape;
 use tape::reading::trade_at;
 use tape::row::TradeRow;
 use terms::duration::Duration;
+use terms::price::Price;
 use terms::refusal::Refusal;
 use terms::side::Side;
-
-const BLANK: TradeRow = TradeRow {
-    product: 0,
-    time: 0,
-    price: 0,
-    quantity: 0,
-    buy: 0,
-    sell: 0,
-    buyer: 0,
-    seller: 0,
-    established: 0,
-    no_bust: 0,
-    mark: 0,
-    day: 0,
-};
 
 fn limit(side: Side, quantity: u32, price: u32) -> Order {
     Order {
@@ -49,52 +35,39 @@ fn market_buy(quantity: u32) -> Order {
 
 fn now_buy(quantity: u32) -> Order {
     Order {
-        side: Side::Buy,
-        quantity,
         limit: Some(6436),
-        participant: 7,
         duration: Duration::Now,
-    }
-}
-
-fn entered(r: Result<Receipt, Refusal>) -> Result<Receipt, Fail> {
-    match r {
-        Ok(receipt) => Ok(receipt),
-        Err(_) => Err(Fail::new("refused")),
+        ..market_buy(quantity)
     }
 }
 
 fn listed(reference: u32) -> Result<Desk, Fail> {
     let mut desk = Desk::new();
-    match desk.list(5, 200, reference) {
-        Ok(()) => Ok(desk),
-        Err(_) => Err(Fail::new("not listed")),
-    }
+    desk.list(5, 200, reference)?;
+    Ok(desk)
 }
 
 fn publish(desk: &mut Desk, table: &mut [OrderRow], tape: &mut RecordTape<'_>) -> Result<(), Fail> {
-    entered(desk.enter(table, tape, limit(Side::Sell, 100, 6505)))?;
-    entered(desk.enter(table, tape, limit(Side::Sell, 50, 6431)))?;
-    entered(desk.enter(table, tape, limit(Side::Buy, 10, 6365)))?;
-    entered(desk.enter(table, tape, limit(Side::Buy, 30, 6320)))?;
+    desk.enter(table, tape, limit(Side::Sell, 100, 6505))?;
+    desk.enter(table, tape, limit(Side::Sell, 50, 6431))?;
+    desk.enter(table, tape, limit(Side::Buy, 10, 6365))?;
+    desk.enter(table, tape, limit(Side::Buy, 30, 6320))?;
     Ok(())
 }
 
-fn numbers(r: Receipt) -> (u32, u32, u32, bool) {
-    (r.traded, r.rest, r.trades, r.halted)
+fn numbers(r: Receipt<bool>) -> (u32, u32, u32, bool) {
+    (r.traded, r.rest, r.trades, r.halt)
 }
 
 // The one order against the published book, with another reference price once the book stands.
 fn against_book(reference: u32, order: Order) -> Result<(u32, u32, u32, bool), Fail> {
     let mut table = [OrderRow::FREE; 6];
-    let mut rows = [BLANK; 4];
-    let mut tape = RecordTape::new(&mut rows);
+    let mut rows = [TradeRow::default(); 4];
+    let mut tape = RecordTape::new(Records(&mut rows));
     let mut desk = listed(6431)?;
     publish(&mut desk, &mut table, &mut tape)?;
-    if desk.list(5, 200, reference).is_err() {
-        return Err(Fail::new("not listed"));
-    }
-    Ok(numbers(entered(desk.enter(&mut table, &mut tape, order))?))
+    desk.list(5, 200, reference)?;
+    Ok(numbers(desk.enter(&mut table, &mut tape, order)?))
 }
 
 #[test]
@@ -120,58 +93,48 @@ fn a_match_outside_the_range_halts(rt: HostRuntime) -> Result<(), Fail> {
 #[test]
 fn with_no_sells_a_market_buy_rests_at_its_sweep_price(rt: HostRuntime) -> Result<(), Fail> {
     let mut table = [OrderRow::FREE; 2];
-    let mut rows = [BLANK; 1];
-    let mut tape = RecordTape::new(&mut rows);
+    let mut rows = [TradeRow::default(); 1];
+    let mut tape = RecordTape::new(Records(&mut rows));
     let mut desk = listed(6431)?;
     assert_eq!(rt;
-        numbers(entered(desk.enter(&mut table, &mut tape, market_buy(100)))?),
+        numbers(desk.enter(&mut table, &mut tape, market_buy(100))?),
         (0, 100, 0, false)
     );
-    let Ok((buy, sell)) = desk.top(&table) else {
-        return Err(Fail::new("not listed"));
-    };
+    let (buy, sell) = desk.top(&table)?;
     assert!(rt; sell.is_none());
-    let Some(buy) = buy else {
-        return Err(Fail::new("no buy"));
-    };
-    assert_eq!(rt; buy.ticks(), 6436);
+    assert_eq!(rt; buy.map(Price::ticks), Some(6436));
     Ok(())
 }
 
-fn refusal(r: Result<Receipt, Refusal>) -> Result<(u32, u32), Fail> {
-    match r {
-        Ok(_) => Err(Fail::new("accepted")),
-        Err(refusal) => Ok((refusal.number(), refusal.detail())),
-    }
+fn told(refusal: Refusal) -> (u32, u32) {
+    (refusal.number(), refusal.detail())
 }
 
 #[test]
 fn a_full_table_and_a_full_tape_are_told(rt: HostRuntime) -> Result<(), Fail> {
     let mut table = [OrderRow::FREE; 5];
-    let mut rows = [BLANK; 1];
-    let mut tape = RecordTape::new(&mut rows);
+    let mut rows = [TradeRow::default(); 1];
+    let mut tape = RecordTape::new(Records(&mut rows));
     let mut desk = listed(6431)?;
     publish(&mut desk, &mut table, &mut tape)?;
-    entered(desk.enter(&mut table, &mut tape, now_buy(20)))?;
+    desk.enter(&mut table, &mut tape, now_buy(20))?;
     assert_eq!(rt;
-        refusal(desk.enter(&mut table, &mut tape, now_buy(20)))?,
-        (13, 1)
+        desk.enter(&mut table, &mut tape, now_buy(20)).map_err(told),
+        Err((13, 1))
     );
-    entered(desk.enter(&mut table, &mut tape, limit(Side::Buy, 1, 6000)))?;
+    desk.enter(&mut table, &mut tape, limit(Side::Buy, 1, 6000))?;
     assert_eq!(rt;
-        refusal(desk.enter(&mut table, &mut tape, now_buy(20)))?,
-        (12, 5)
+        desk.enter(&mut table, &mut tape, now_buy(20)).map_err(told),
+        Err((12, 5))
     );
     assert_eq!(rt; tape.count(), 1);
-    let Ok(trade) = trade_at(&tape, 1) else {
-        return Err(Fail::new("no trade"));
-    };
+    let trade = trade_at(&tape, 1)?;
     assert_eq!(rt;
         (
             trade.price.ticks(),
             trade.quantity.lots(),
-            trade.buy,
-            trade.sell,
+            trade.buy.number(),
+            trade.sell.number(),
         ),
         (6431, 20, 5, 2)
     );

@@ -7,6 +7,7 @@ use orders::row::OrderRow;
 use orders::search::best;
 use orders::side::{Buys, Sells};
 use std::test::Fail;
+use terms::price::Price;
 
 // A buy of product 0 until cancelled, entered on day 3.
 fn buy(number: u32, place: u32, price: u32) -> OrderRow {
@@ -64,7 +65,7 @@ fn priority_is_price_then_place_then_index(rt: HostRuntime) {
 }
 
 #[test]
-fn rubbish_is_free_and_a_number_means_the_first_row(rt: HostRuntime) -> Result<(), Fail> {
+fn rubbish_is_free_and_a_number_means_the_first_row(rt: HostRuntime) {
     let rubbish = OrderRow {
         participant: 1_000,
         ..buy(1, 1, 100)
@@ -75,27 +76,23 @@ fn rubbish_is_free_and_a_number_means_the_first_row(rt: HostRuntime) -> Result<(
     };
     let table = [rubbish, unlisted, buy(1, 5, 100), buy(1, 2, 100)];
     assert!(rt; free_place(&table, 1) == Ok(0));
-    let Some(e) = find(&table, 1, 1) else {
-        return Err(Fail::new("no order"));
-    };
-    assert_eq!(rt; e.index, 2);
-    Ok(())
+    assert_eq!(rt; find(&table, 1, 1).map(|e| e.index), Some(2));
 }
 
 #[test]
-fn a_top_and_a_crossed_book(rt: HostRuntime) -> Result<(), Fail> {
+fn a_top_and_a_crossed_book(rt: HostRuntime) {
     let sell = OrderRow {
         side: 1,
         ..buy(2, 2, 101)
     };
     let apart = [buy(1, 1, 100), sell];
-    let (Some(b), Some(s)) = top(&apart, 0) else {
-        return Err(Fail::new("no top"));
-    };
-    assert_eq!(rt; (b.ticks(), s.ticks()), (100, 101));
+    let (buy_at, sell_at) = top(&apart, 0);
+    assert_eq!(rt;
+        (buy_at.map(Price::ticks), sell_at.map(Price::ticks)),
+        (Some(100), Some(101))
+    );
     assert!(rt; !is_crossed(&apart, 0) && is_crossed(&[buy(1, 1, 101), sell], 0));
     assert!(rt; best::<Sells>(&apart, 1).is_none());
-    Ok(())
 }
 
 fn left(table: &mut [OrderRow], day_ends: bool, day: u32) -> u32 {

@@ -1,7 +1,7 @@
 -- What a case is refused for. Assumes nothing.
 use Rattle.std.specs.Prelude.{◌≡◌, ℕ, List, [], ◌∷◌, Ok, Err, Option, Result}
 use Rattle.listing.specs.Changes.{Contents}
-use Rattle.rules.specs.Calls.{Answer, request, determine, done}
+use Rattle.rules.specs.Calls.{Answer, determine, done}
 use Rattle.rules.specs.Refusing.{side_check, mark_check, late_check, width_check, fault}
 use Rattle.rules.specs.Worlds.{World, world}
 use Rattle.rules.specs.declared.state.State.{State}
@@ -21,9 +21,6 @@ no_products = record { rows = []; count = 0; limit = 0 }
 -- a market's state beside its tape
 abbrev pub beside : State → List TradeRow → World
 beside s tape = world s no_products (λ right strike underlying. 0) [] tape 0
-
-abbrev pub request_fault : State → List TradeRow → ℕ → ℕ → ℕ → Option Refusal
-request_fault s tape time participant number = fault (beside s tape) time (request participant number)
 
 abbrev pub determination_fault : State → List TradeRow → ℕ → ℕ → Determination → Option Refusal
 determination_fault s tape time number verdict = fault (beside s tape) time (determine number verdict)

@@ -1,10 +1,9 @@
 // Cases: a trade is questioned, and the exchange decides.
-ghost use Rattle.std.specs.Prelude.{◌≡◌, ◌-◌, true, slice_set};
-ghost use Rattle.rules.specs.Calls.{request as requesting, determine as determining, case_on, told, done};
-ghost use Rattle.tape.specs.Tapes.{on_tape, record_at, marked};
+ghost use Rattle.std.specs.Prelude.{◌≡◌};
+ghost use Rattle.rules.specs.Calls.{request as requesting, determine as determining, case_on, told};
 ghost use Rattle.tape.specs.Trades.{row_of};
 ghost use Rattle.terms.specs.Checks.{answered, earliest};
-ghost use Rattle.cases.specs.Cases.{case_checks, request_fault, determination_fault, told_back, HandsBack};
+ghost use Rattle.cases.specs.Cases.{case_checks, determination_fault, told_back, HandsBack};
 ghost use Rattle.market.specs.Markets.{world_of, Follows};
 
 use crate::case::Case;
@@ -27,44 +26,29 @@ use terms::verdict::Verdict;
 pub const REQUEST_SECONDS: u32 = 300;
 
 // Whether a case may be opened on a trade.
-fn hold_case(trade: Trade, number: u32, participant: u32, time: u32) -> Result<(), Refusal>
-    ensures { result ≡ answered (earliest (case_checks (row_of trade) number participant time)) tt }
+#[tactic(auto, using(terms::proofs::Checked::price_is))]
+fn hold_case(trade: Trade, number: u32, participant: Participant, time: u32) -> Result<(), Refusal>
+    ensures { result ≡ answered (earliest (case_checks (row_of trade) number participant.number time)) tt }
 {
-    if (trade.buyer.number() != participant) & (trade.seller.number() != participant) {
+    if trade.buyer != participant && trade.seller != participant {
         return Err(Refusal::NoSide(number));
     }
-    let Mark::Stands = trade.mark else {
+    if trade.mark != Mark::Stands {
         return Err(Refusal::Marked(trade.mark));
-    };
+    }
     let late = time
         .saturating_sub(trade.time)
         .saturating_sub(REQUEST_SECONDS);
     if late > 0 {
         return Err(Refusal::TooLate(late));
     }
-    match verdict(trade.price, trade.established, trade.no_bust) {
-        Verdict::Within => Err(Refusal::NoBust(trade.established)),
-        Verdict::Beyond => Ok(()),
+    if verdict(trade.price, trade.established, trade.no_bust) == Verdict::Within {
+        return Err(Refusal::NoBust(trade.established));
     }
+    Ok(())
 }
 
-fn hold_request<T: Tape>(
-    state: State,
-    tape: &T,
-    time: u32,
-    participant: u32,
-    number: u32,
-) -> Result<(), Refusal>
-where
-    Refusal: From<T::Fault>,
-    ensures { result ≡ answered (request_fault state (T.Tape.records tape.now) time participant number) tt }
-{
-    hold_time(state, time)?;
-    let _ = Participant::try_from(participant)?;
-    let trade = trade_at(tape, number)?;
-    hold_case(trade, number, participant, time)
-}
-
+// Whether the case on a trade may be determined.
 fn hold_determination<T: Tape>(
     state: State,
     tape: &T,
@@ -72,30 +56,14 @@ fn hold_determination<T: Tape>(
     number: u32,
     verdict: Determination,
 ) -> Result<(), Refusal>
-where
-    Refusal: From<T::Fault>,
     ensures { result ≡ answered (determination_fault state (T.Tape.records tape.now) time number verdict) tt }
 {
     hold_time(state, time)?;
     let trade = trade_at(tape, number)?;
-    let Mark::Considered = trade.mark else {
+    if trade.mark != Mark::Considered {
         return Err(Refusal::NotConsidered(trade.mark));
-    };
-    Ok(())
-}
-
-// A record that is known to be there reads otherwise.
-fn set_mark<T: Tape>(tape: &mut T, number: u32, mark: Mark)
-where
-    Refusal: From<T::Fault>,
-    requires { on_tape (T.Tape.records tape.old) number ≡ true }
-    ensures records { T.Tape.records tape.new ≡ slice_set (T.Tape.records tape.old) (number - 1) (marked mark (record_at (T.Tape.records tape.old) number)) }
-    ensures room { T.Tape.space tape.new ≡ T.Tape.space tape.old }
-{
-    match tape.mark(number, mark) {
-        Ok(()) => {}
-        Err(_) => unreachable(),
     }
+    Ok(())
 }
 
 // A participant of a trade questions it: it is considered, and the case is handed out.
@@ -107,12 +75,12 @@ pub fn request<M: PricingModel, T: Tape>(
     participant: u32,
     number: u32,
 ) -> Result<Case, Refusal>
-where
-    Refusal: From<T::Fault>,
     ensures { Follows (world_of M.PricingModel.tells T.Tape.records T.Tape.space market.old table.now tape.old) time (requesting participant number) (told (λ case. case_on case.trade) result) (world_of M.PricingModel.tells T.Tape.records T.Tape.space market.new table.now tape.new) }
 {
-    hold_request(market.state, tape, time, participant, number)?;
-    set_mark(tape, number, Mark::Considered);
+    hold_time(market.state, time)?;
+    let participant = Participant::try_from(participant)?;
+    hold_case(trade_at(tape, number)?, number, participant, time)?;
+    tape.mark(number, Mark::Considered).unwrap();
     market.state.time = time;
     Ok(Case { trade: number })
 }
@@ -126,16 +94,15 @@ pub fn determine<M: PricingModel, T: Tape>(
     case: Case,
     verdict: Determination,
 ) -> Result<(), (Refusal, Case)>
-where
-    Refusal: From<T::Fault>,
     ensures rule { Follows (world_of M.PricingModel.tells T.Tape.records T.Tape.space market.old table.now tape.old) time (determining case.trade verdict) (told_back result) (world_of M.PricingModel.tells T.Tape.records T.Tape.space market.new table.now tape.new) }
     ensures back { HandsBack case result }
 {
+    // a closure for `map_err` would take the case
     if let Err(refusal) = hold_determination(market.state, tape, time, case.trade, verdict) {
         return Err((refusal, case));
     }
     let Case { trade } = case;
-    set_mark(tape, trade, verdict.mark());
+    tape.mark(trade, verdict.mark()).unwrap();
     market.state.time = time;
     Ok(())
 }

@@ -1,5 +1,5 @@
 -- Which way an order goes at the desk. Assumes nothing.
-use Rattle.std.proofs.Common.{◌≡◌, ℕ, List, Some, None, Ok, Err, Option, Result, sym, refl, subst, arith}
+use Rattle.std.proofs.Common.{◌≡◌, ℕ, Bool, List, Some, None, Ok, Err, Option, Result, sym, refl, subst, arith}
 use Rattle.book.specs.Entries.{EntersFrom}
 use Rattle.book.specs.declared.incoming.Incoming.{Incoming}
 use Rattle.book.specs.declared.outcome.Receipt.{Receipt}
@@ -9,7 +9,6 @@ use Rattle.orders.specs.declared.row.OrderRow.{OrderRow}
 use Rattle.tape.specs.declared.row.TradeRow.{TradeRow}
 use Rattle.terms.specs.Checks.{answered, earliest}
 use Rattle.terms.specs.declared.refusal.Refusal.{Refusal}
-use Rattle.terms.specs.declared.side.Side.{Side}
 use Rattle.desk.specs.Desks.{product_or}
 use Rattle.desk.specs.Entries.{desk_checks, TurnedDown, ComesToBook, ByChecks, DeskEnters}
 use Rattle.desk.specs.declared.desk.Desk.{Desk}
@@ -27,7 +26,7 @@ pub passes_with : {A : Type 0} (o : Option Refusal) (v w : A) → Ok w ≡ answe
 passes_with None v w e = (refl, cc)
 passes_with (Some g) v w e = absurd (let z : ◌≡◌ {A = ℕ} 0 1 = cc in let y : ⊥ = omega arith in y)
 
-module _ {T : Type 0} (records : T → List TradeRow) (space : T → ℕ) (o : Option Product) (p : Product) (order : Order) (desk : Desk) (table : List OrderRow) (tape : T) (r : Result Receipt Refusal) (desk' : Desk) (table' : List OrderRow) (tape' : T) (is : o ≡ Some p) where
+module _ {T : Type 0} (records : T → List TradeRow) (space : T → ℕ) (o : Option Product) (p : Product) (order : Order) (desk : Desk) (table : List OrderRow) (tape : T) (r : Result (Receipt Bool) Refusal) (desk' : Desk) (table' : List OrderRow) (tape' : T) (is : o ≡ Some p) where
   at_product : ByChecks records space (earliest (desk_checks p desk.halted table order)) p order desk table tape r desk' table' tape' → DeskEnters records space o order desk table tape r desk' table' tape'
   at_product h = subst (λ (x : Option Product). DeskEnters records space x order desk table tape r desk' table' tape') (sym is) h
 
@@ -38,7 +37,7 @@ module _ {T : Type 0} (records : T → List TradeRow) (space : T → ℕ) (o : O
   to_book e h = at_product (subst (λ (x : Option Refusal). ByChecks records space x p order desk table tape r desk' table' tape') (sym e) h)
 
 -- the same order and range under other names
-pub as_came : {T : Type 0} (records : T → List TradeRow) (space : T → ℕ) (products stamp : ℕ) (side : Side) (table : List OrderRow) (tape : T) (r : Result Receipt Refusal) (table' : List OrderRow) (tape' : T) (o o' : Incoming) (range range' : Range) → o ≡ o' → range ≡ range' → EntersFrom records space products stamp side o range table tape r table' tape' → EntersFrom records space products stamp side o' range' table tape r table' tape'
-as_came records space products stamp side table tape r table' tape' o o' range range' e f h =
-    subst (λ (x : Range). EntersFrom records space products stamp side o' x table tape r table' tape') f
-    (subst (λ (x : Incoming). EntersFrom records space products stamp side x range table tape r table' tape') e h)
+pub as_came : {T : Type 0} (records : T → List TradeRow) (space : T → ℕ) (products stamp : ℕ) (table : List OrderRow) (tape : T) (r : Result (Receipt Bool) Refusal) (table' : List OrderRow) (tape' : T) (o o' : Incoming) (range range' : Range) → o ≡ o' → range ≡ range' → EntersFrom records space products stamp o.side o range table tape r table' tape' → EntersFrom records space products stamp o'.side o' range' table tape r table' tape'
+as_came records space products stamp table tape r table' tape' o o' range range' e f h =
+    subst (λ (x : Range). EntersFrom records space products stamp o'.side o' x table tape r table' tape') f
+    (subst (λ (x : Incoming). EntersFrom records space products stamp x.side x range table tape r table' tape') e h)

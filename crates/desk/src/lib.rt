@@ -2,5 +2,3 @@
 #![tactic(auto)]
 
 pub mod desk;
-pub mod entries;
-pub mod prepared;

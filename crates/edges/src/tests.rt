@@ -34,10 +34,10 @@ fn checked_numbers_at_their_edges(rt: HostRuntime) -> Result<(), Fail> {
 }
 
 fn held(side: Side, ticks: u32, best: Option<Price>) -> Result<(u32, u32), Fail> {
-    Ok(
-        hold_to_sweep(side, price(ticks)?, best, price(6431)?, 5)
-            .map_or_else(|refusal| (refusal.number(), refusal.detail()), |()| (0, 0)),
-    )
+    Ok(hold_to_sweep(side, price(ticks)?, best, price(6431)?, 5).map_or_else(
+        |refusal| (refusal.number(), refusal.detail()),
+        |()| (0, 0),
+    ))
 }
 
 #[test]

@@ -1,6 +1,6 @@
 -- The established market price of a product. Assumes nothing.
-use Rattle.std.specs.Prelude.{ℕ, ◌+◌, ◌-◌, min, cond, List, Some, None, Option, ◌==◌}
-use Rattle.std.specs.Option.{option_map, unwrap_or}
+use Rattle.std.specs.Prelude.{ℕ, ◌+◌, ◌-◌, min, cond, List, Option, ◌==◌}
+use Rattle.std.specs.Option.{option_map, option_or, unwrap_or}
 use Rattle.listing.specs.Questions.{product_in}
 use Rattle.listing.specs.declared.kind.Kind.{Kind}
 use Rattle.listing.specs.declared.kind.Kind.TheVariants.{Future, Option as AnOption}
@@ -24,14 +24,10 @@ pub record Moment : Type 0 where
 abbrev pub moment : List OrderRow → List TradeRow → ℕ → ℕ → Moment
 moment table records day time = record { table = table; records = records; day = day; time = time }
 
-abbrev pub or_else : Option ℕ → Option ℕ → Option ℕ
-or_else (Some n) later = Some n
-or_else None later = later
-
 -- step 1, else step 2; none where the product traded neither within the window nor today
 abbrev pub told_by_trades : Moment → ℕ → Product → Option ℕ
 told_by_trades m n p =
-    or_else (recent_average m.records n m.time)
+    option_or (recent_average m.records n m.time)
     (option_map (corrected_in m.table n) (last_worth p m.records n m.day))
 
 -- step 3 else, with what the product is worth without a trade

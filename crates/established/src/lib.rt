@@ -2,5 +2,4 @@
 #![tactic(auto)]
 
 pub mod moment;
-mod steps;
 pub mod verdict;

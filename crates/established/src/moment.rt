@@ -1,4 +1,4 @@
-// A moment of a market: all that an established market price is worked out from, but for the pricing model.
+// The established market price of a product, from the products, the book, the tape, the day and the time.
 ghost use Rattle.std.specs.Prelude.{◌≡◌, ◌<◌, ◌≤◌};
 ghost use Rattle.std.specs.Option.{option_map};
 ghost use Rattle.listing.specs.Questions.{product_in, listed_check};
@@ -8,10 +8,9 @@ ghost use Rattle.terms.specs.Ranges.{highest_price};
 ghost use Rattle.established.specs.Averages.{ticks_of, recent_average};
 ghost use Rattle.established.specs.Corrections.{corrected_in};
 ghost use Rattle.established.specs.Days.{last_worth};
-ghost use Rattle.established.specs.Established.{told_by_trades, established_spot, established_future, option_worth, established};
+ghost use Rattle.established.specs.Established.{carried as carried_over, told_by_trades, established_spot, established_future, option_worth, established};
 ghost use Rattle.established.specs.Moments.{moment_of};
 
-use crate::steps::{carried, corrected};
 use listing::kind::Kind;
 use listing::product::Product;
 use listing::products::Products;
@@ -25,17 +24,27 @@ use terms::price::Price;
 use terms::refusal::Refusal;
 use terms::right::Right;
 
-#[derive(Clone, Copy)]
+#[derive(Drop)]
 pub struct Moment<'a, T> {
     pub products: &'a Products,
     pub table: &'a [OrderRow],
     pub tape: &'a T,
     pub day: u32,
+    // in seconds
     pub time: u32,
 }
 
+// The spot price moved by the distance of the reference prices.
+fn carried(spot: Price, own: Price, spot_reference: Price) -> Price
+    ensures { result.ticks ≡ carried_over spot.ticks own.ticks spot_reference.ticks }
+{
+    let sum = spot.ticks() + own.ticks();
+    Price::ZERO.raised(sum.saturating_sub(spot_reference.ticks()))
+}
+
+// A match stands where a closure could: one that asks through self needs its contract written out beside it.
 impl<T: Tape> Moment<'_, T> {
-    #[tactic(auto, using(crate::proofs::Means::quotient_priced, terms::proofs::Checked::price_ok))]
+    #[tactic(auto, using(crate::proofs::Means::average_priced, terms::proofs::Checked::price_ok))]
     fn recent_average(&self, n: u32) -> Option<Price>
         ensures { option_map ticks_of result ≡ recent_average (T.Tape.records self.now.tape.now) n self.now.time }
     {
@@ -49,20 +58,24 @@ impl<T: Tape> Moment<'_, T> {
         requires { product.reference ≤ highest_price }
         ensures { option_map ticks_of result ≡ last_worth product (T.Tape.records self.now.tape.now) n self.now.day }
     {
-        let last = last_of_day(self.tape, n, self.day)?;
-        if last.number <= product.adjusted {
-            Some(product.reference_price())
-        } else {
-            Some(last.price)
-        }
+        last_of_day(self.tape, n, self.day).map(|last| {
+            if last.number <= product.adjusted {
+                product.reference_price()
+            } else {
+                last.price
+            }
+        })
     }
 
+    // The best buy where it is above, else the best sell where it is below.
     #[tactic(auto, unfolding(crate::specs::Corrections::corrected_in))]
     fn corrected(&self, n: u32, worth: Price) -> Price
         ensures { result.ticks ≡ corrected_in self.now.table.now n worth.ticks }
     {
         let (buy, sell) = top(self.table, n);
-        corrected(buy, sell, worth)
+        buy.filter(|b| *b > worth)
+            .or(sell.filter(|s| *s < worth))
+            .unwrap_or(worth)
     }
 
     // The average of the window, else the last trade of the day, corrected.
@@ -77,6 +90,7 @@ impl<T: Tape> Moment<'_, T> {
         Some(self.corrected(n, self.last_worth(n, product)?))
     }
 
+    // The price of product 0.
     #[tactic(auto, unfolding(crate::specs::Established::established_spot, crate::specs::Established::established_from))]
     fn spot(&self) -> Price
         ensures { result.ticks ≡ established_spot self.now.products.now (moment_of T.Tape.records self.now) }
@@ -88,6 +102,7 @@ impl<T: Tape> Moment<'_, T> {
         }
     }
 
+    // The price of a future.
     #[tactic(auto, unfolding(crate::specs::Established::established_future, crate::specs::Established::established_from))]
     fn future(&self, n: u32, product: Product) -> Price
         requires listed { n < self.now.products.now.count }
@@ -100,9 +115,9 @@ impl<T: Tape> Moment<'_, T> {
         match self.told_by_trades(n, product) {
             Some(price) => price,
             None => {
-                let spot = self.spot();
                 let spot_reference = self.products.spot().reference_price();
-                self.corrected(n, carried(spot, product.reference_price(), spot_reference))
+                let worth = carried(self.spot(), product.reference_price(), spot_reference);
+                self.corrected(n, worth)
             }
         }
     }
@@ -124,6 +139,7 @@ impl<T: Tape> Moment<'_, T> {
         model.price(right, Price::try_from(strike).unwrap(), price)
     }
 
+    // The established market price of a product.
     #[tactic(auto, using(terms::proofs::Checked::price_is), unfolding(crate::specs::Established::established, crate::specs::Established::established_from))]
     pub fn established<M: PricingModel>(&self, model: &M, product: u32) -> Result<Price, Refusal>
         ensures answer { result ≡ answered (listed_check self.now.products.now product) (price_at (established self.now.products.now (moment_of T.Tape.records self.now) (M.PricingModel.tells model.now) product)) }

@@ -1,32 +1,29 @@
 // Options by both pricing models.
-use crate::sample::{FUTURE, NO_TRADE, adjust, option_on, order, products};
-use established::established::established;
+use crate::sample::{FUTURE, adjust, option_on, order, products};
+use established::moment::Moment;
 use orders::row::OrderRow;
 use pricing::intrinsic::Intrinsic;
 use pricing::ladder::Ladder;
 use pricing::model::PricingModel;
 use pricing::rung::Rung;
-use record_tape::RecordTape;
+use record_tape::{RecordTape, Records};
 use std::test::Fail;
+use tape::row::TradeRow;
 use terms::right::Right;
 
 // An option at 6400, of this right, on a future whose reference is 6400.
 fn told<M: PricingModel>(model: &M, right: Right, table: &[OrderRow]) -> Result<u32, Fail> {
     let mut products = products(&[FUTURE, option_on(right, 6400, 0)])?;
     adjust(&mut products, 0, 6400, 0)?;
-    let mut rows = [NO_TRADE; 1];
-    let tape = RecordTape::new(&mut rows);
-    match established(&products, model, table, &tape, 1, 1, 0) {
-        Ok(price) => Ok(price.ticks()),
-        Err(_) => Err(Fail::new("not listed")),
-    }
-}
-
-fn ladder(rungs: &[Rung]) -> Result<Ladder, Fail> {
-    match Ladder::new(rungs) {
-        Ok(ladder) => Ok(ladder),
-        Err(_) => Err(Fail::new("no ladder")),
-    }
+    let mut rows = [TradeRow::default(); 1];
+    let at = Moment {
+        products: &products,
+        table,
+        tape: &RecordTape::new(Records(&mut rows)),
+        day: 1,
+        time: 0,
+    };
+    Ok(at.established(model, 1)?.ticks())
 }
 
 fn rung(level: i32, price: u32) -> Rung {
@@ -44,14 +41,14 @@ fn intrinsic(rt: HostRuntime) -> Result<(), Fail> {
 #[test]
 fn on_a_ladder(rt: HostRuntime) -> Result<(), Fail> {
     let table = [order(0, 0, 6431)];
-    let three = ladder(&[rung(-100, 5), rung(0, 20), rung(50, 60)])?;
+    let three = Ladder::new(&[rung(-100, 5), rung(0, 20), rung(50, 60)])?;
     assert_eq!(rt; told(&three, Right::Call, &table)?, 20);
     assert_eq!(rt; told(&three, Right::Put, &table)?, 5);
     assert_eq!(rt;
         told(&three, Right::Call, &[order(0, 0, 6431), order(1, 1, 18)])?,
         18
     );
-    let one = ladder(&[rung(40, 60)])?;
+    let one = Ladder::new(&[rung(40, 60)])?;
     assert_eq!(rt; told(&one, Right::Call, &table)?, 0);
     assert_eq!(rt; told(&one, Right::Put, &table)?, 0);
     Ok(())

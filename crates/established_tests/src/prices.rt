@@ -1,58 +1,46 @@
 // The three steps, on a tape in memory.
-use crate::sample::{FUTURE, NO_TRADE, adjust, order, products, trade};
-use established::established::established;
-use listing::products::Products;
+use crate::sample::{FUTURE, adjust, order, products, trade};
+use established::moment::Moment;
 use orders::row::OrderRow;
 use pricing::intrinsic::Intrinsic;
-use record_tape::RecordTape;
+use record_tape::{RecordTape, Records};
 use std::test::Fail;
 use tape::Tape;
-use terms::refusal::Refusal;
+use tape::row::TradeRow;
 
-fn put<T: Tape>(
-    tape: &mut T,
-    product: u32,
-    time: u32,
-    price: u32,
-    quantity: u32,
-) -> Result<(), Fail>
-where
-    Refusal: From<T::Fault>,
-{
-    match tape.add(trade(product, time, price, quantity, 1)?) {
-        Ok(()) => Ok(()),
-        Err(_) => Err(Fail::new("not added")),
-    }
-}
-
-// On day 1.
-fn told<T: Tape>(
-    products: &Products,
-    table: &[OrderRow],
-    tape: &T,
-    n: u32,
-    time: u32,
-) -> Result<u32, Fail>
-where
-    Refusal: From<T::Fault>,
-{
-    match established(products, &Intrinsic, table, tape, n, 1, time) {
-        Ok(price) => Ok(price.ticks()),
-        Err(_) => Err(Fail::new("not listed")),
-    }
+fn told<T: Tape>(at: &Moment<'_, T>, product: u32) -> Result<u32, Fail> {
+    Ok(at.established(&Intrinsic, product)?.ticks())
 }
 
 #[test]
 fn the_average_and_its_window(rt: HostRuntime) -> Result<(), Fail> {
     let products = products(&[FUTURE])?;
-    let mut rows = [NO_TRADE; 2];
-    let mut tape = RecordTape::new(&mut rows);
-    put(&mut tape, 0, 100, 100, 10)?;
-    put(&mut tape, 0, 150, 101, 20)?;
-    assert_eq!(rt; told(&products, &[], &tape, 0, 160)?, 100);
-    assert_eq!(rt; told(&products, &[order(0, 0, 500)], &tape, 0, 160)?, 100);
-    assert_eq!(rt; told(&products, &[], &tape, 0, 161)?, 101);
-    assert!(rt; established(&products, &Intrinsic, &[], &tape, 1, 1, 161).is_err());
+    let mut rows = [TradeRow::default(); 2];
+    let mut tape = RecordTape::new(Records(&mut rows));
+    tape.add(trade(0, 100, 100, 10)?)?;
+    tape.add(trade(0, 150, 101, 20)?)?;
+    let at = Moment {
+        products: &products,
+        table: &[],
+        tape: &tape,
+        day: 1,
+        time: 160,
+    };
+    let late = Moment { time: 161, ..at };
+    let table = [order(0, 0, 500)];
+    assert_eq!(rt; told(&at, 0)?, 100);
+    assert_eq!(rt;
+        told(
+            &Moment {
+                table: &table,
+                ..at
+            },
+            0
+        )?,
+        100
+    );
+    assert_eq!(rt; told(&late, 0)?, 101);
+    assert!(rt; late.established(&Intrinsic, 1).is_err());
     Ok(())
 }
 
@@ -60,13 +48,17 @@ fn the_average_and_its_window(rt: HostRuntime) -> Result<(), Fail> {
 fn later(reference: u32, records: u32, day: u32, table: &[OrderRow]) -> Result<u32, Fail> {
     let mut products = products(&[FUTURE])?;
     adjust(&mut products, 0, reference, records)?;
-    let mut rows = [NO_TRADE; 1];
-    let mut tape = RecordTape::new(&mut rows);
-    put(&mut tape, 0, 100, 6431, 50)?;
-    match established(&products, &Intrinsic, table, &tape, 0, day, 161) {
-        Ok(price) => Ok(price.ticks()),
-        Err(_) => Err(Fail::new("not listed")),
-    }
+    let mut rows = [TradeRow::default(); 1];
+    let mut tape = RecordTape::new(Records(&mut rows));
+    tape.add(trade(0, 100, 6431, 50)?)?;
+    let at = Moment {
+        products: &products,
+        table,
+        tape: &tape,
+        day,
+        time: 161,
+    };
+    told(&at, 0)
 }
 
 #[test]
@@ -85,10 +77,17 @@ fn month(spot: u32, own: u32, time: u32, table: &[OrderRow]) -> Result<u32, Fail
     let mut products = products(&[FUTURE; 2])?;
     adjust(&mut products, 0, spot, 0)?;
     adjust(&mut products, 1, own, 0)?;
-    let mut rows = [NO_TRADE; 1];
-    let mut tape = RecordTape::new(&mut rows);
-    put(&mut tape, 0, 100, 6440, 50)?;
-    told(&products, table, &tape, 1, time)
+    let mut rows = [TradeRow::default(); 1];
+    let mut tape = RecordTape::new(Records(&mut rows));
+    tape.add(trade(0, 100, 6440, 50)?)?;
+    let at = Moment {
+        products: &products,
+        table,
+        tape: &tape,
+        day: 1,
+        time,
+    };
+    told(&at, 1)
 }
 
 #[test]

@@ -16,21 +16,6 @@ pub const FUTURE: Listed = Listed {
     no_bust: 20,
 };
 
-pub const NO_TRADE: TradeRow = TradeRow {
-    product: 0,
-    time: 0,
-    price: 0,
-    quantity: 0,
-    buy: 0,
-    sell: 0,
-    buyer: 0,
-    seller: 0,
-    established: 0,
-    no_bust: 0,
-    mark: 0,
-    day: 0,
-};
-
 pub fn option_on(right: Right, strike: u32, underlying: u32) -> Listed {
     Listed {
         kind: Kind::Option {
@@ -43,24 +28,16 @@ pub fn option_on(right: Right, strike: u32, underlying: u32) -> Listed {
 }
 
 pub fn price(ticks: u32) -> Result<Price, Fail> {
-    match Price::try_from(ticks) {
-        Ok(price) => Ok(price),
-        Err(_) => Err(Fail::new("no price")),
-    }
+    Ok(Price::try_from(ticks)?)
 }
 
 pub fn products(listing: &[Listed]) -> Result<Products, Fail> {
-    match Products::new(listing, 30) {
-        Ok(products) => Ok(products),
-        Err(_) => Err(Fail::new("no listing")),
-    }
+    Ok(Products::new(listing, 30)?)
 }
 
 pub fn adjust(products: &mut Products, n: u32, ticks: u32, records: u32) -> Result<(), Fail> {
-    match products.adjust(n, price(ticks)?, records) {
-        Ok(()) => Ok(()),
-        Err(_) => Err(Fail::new("not adjusted")),
-    }
+    products.adjust(n, price(ticks)?, records)?;
+    Ok(())
 }
 
 // An order of one lot; the side is 0 for a buy and 1 for a sell.
@@ -74,13 +51,13 @@ pub fn order(product: u32, side: u32, price: u32) -> OrderRow {
         rest: 1,
         participant: 1,
         duration: 1,
-        date: 0,
-        entered: 0,
+        ..OrderRow::FREE
     }
 }
 
-pub fn trade(product: u32, time: u32, price: u32, quantity: u32, day: u32) -> Result<Trade, Fail> {
-    let row = TradeRow {
+// A trade of day 1, at the established price.
+pub fn trade(product: u32, time: u32, price: u32, quantity: u32) -> Result<Trade, Fail> {
+    Ok(Trade::try_from(TradeRow {
         product,
         time,
         price,
@@ -92,10 +69,6 @@ pub fn trade(product: u32, time: u32, price: u32, quantity: u32, day: u32) -> Re
         established: price,
         no_bust: 20,
         mark: 0,
-        day,
-    };
-    match row.trade() {
-        Some(trade) => Ok(trade),
-        None => Err(Fail::new("no trade")),
-    }
+        day: 1,
+    })?)
 }

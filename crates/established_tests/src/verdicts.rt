@@ -4,18 +4,15 @@ use established::verdict::verdict;
 use std::test::Fail;
 use terms::verdict::Verdict;
 
-fn is_beyond(ticks: u32) -> Result<bool, Fail> {
-    match verdict(price(ticks)?, price(6431)?, 20) {
-        Verdict::Beyond => Ok(true),
-        Verdict::Within => Ok(false),
-    }
+fn told(ticks: u32) -> Result<Verdict, Fail> {
+    Ok(verdict(price(ticks)?, price(6431)?, 20))
 }
 
 #[test]
 fn around_the_established_price(rt: HostRuntime) -> Result<(), Fail> {
-    assert!(rt; !is_beyond(6451)?);
-    assert!(rt; is_beyond(6452)?);
-    assert!(rt; !is_beyond(6411)?);
-    assert!(rt; is_beyond(6410)?);
+    assert_eq!(rt; told(6451)?, Verdict::Within);
+    assert_eq!(rt; told(6452)?, Verdict::Beyond);
+    assert_eq!(rt; told(6411)?, Verdict::Within);
+    assert_eq!(rt; told(6410)?, Verdict::Beyond);
     Ok(())
 }

@@ -2,7 +2,7 @@
 use Rattle.std.proofs.Common.{◌≡◌, ℕ, zero, suc, ◌+◌, ◌<◌, Bool, true, false, cond, not, ◌&&◌, ltb, List, [], ◌∷◌, length, get_or, filter, sym, refl, ap, subst, inl, inr, le_of_suc-le-suc, not-suc-le-zero, arith}
 use Rattle.std.proofs.lemmas.Bool.{cond_both, cond-true, or_cases, or_parts, and_parts, not-true}
 use Rattle.std.proofs.lemmas.Bool.Decides.{nat_tests}
-use Rattle.orders.specs.Ranks.{lower_chain, higher_chain}
+use Rattle.orders.specs.Ranks.{higher_by_price, lower_by_price, first_oneway as oneway, first_chain as chain}
 use Rattle.orders.specs.Queue.{Slot, slot, slots, counted, higher_first, lower_first, before, insert, sorted, rests, queue}
 use Rattle.orders.specs.Rows.{free, side_code}
 use Rattle.orders.specs.declared.row.OrderRow.{OrderRow}
@@ -140,12 +140,12 @@ first_itself Buy a = grind (arith, nat_tests)
 first_itself Sell a = grind (arith, nat_tests)
 
 first_back : (s : Side) (a b : OrderRow) → first_of s a b ≡ true → first_of s b a ≡ false
-first_back Buy a b h = grind (arith, nat_tests)
-first_back Sell a b h = grind (arith, nat_tests)
+first_back Buy a b h = oneway higher_by_price a b h
+first_back Sell a b h = oneway lower_by_price a b h
 
 first_chain : (s : Side) (a b c : OrderRow) → first_of s a b ≡ false → first_of s b c ≡ false → first_of s a c ≡ false
-first_chain Buy a b c h k = higher_chain a.price a.place b.price b.place c.price c.place h k
-first_chain Sell a b c h k = lower_chain a.price a.place b.price b.place c.price c.place h k
+first_chain Buy a b c h k = chain higher_by_price a b c h k
+first_chain Sell a b c h k = chain lower_by_price a b c h k
 
 before_back : (s : Side) (a b : Slot) → before (first_of s) a b ≡ true → first_of s b.row a.row ≡ false
 before_back s a b e =

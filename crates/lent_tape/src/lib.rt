@@ -40,7 +40,7 @@ impl<P: Places> LentTape<P> {
         LentTape { places, used: 0 }
     }
 
-    // The time of the last record; 0 where there is none.
+    // The time of the last record; with none 0, the earliest time there is.
     #[tactic(auto, using(tape::proofs::Memory::latest_placed))]
     fn last(&self) -> u32
         ensures { result ≡ latest (held self.now) }

@@ -9,11 +9,11 @@ use Rattle.terms.specs.declared.refusal.Refusal.{Refusal}
 
 pub unless_passed : (b : Bool) (r : Refusal) → unless b r ≡ None → b ≡ true
 unless_passed true r e = refl
-unless_passed false r e = absurd (let z : ◌≡◌ {A = ℕ} 0 1 = cc in let y : ⊥ = omega arith in y)
+unless_passed false r e = grind arith
 
 pub passed : (a b : Option Refusal) → first_of a b ≡ None → (a ≡ None) × (b ≡ None)
 passed None b e = (refl, e)
-passed (Some r) b e = absurd (let z : ◌≡◌ {A = ℕ} 0 1 = cc in let y : ⊥ = omega arith in y)
+passed (Some r) b e = grind arith
 
 pub price_ticks : (n : ℕ) → price_check n ≡ None → (price_at n).ticks ≡ n
 price_ticks n e = omega (arith, leb-true n highest_price (unless_passed _ _ e))

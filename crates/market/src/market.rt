@@ -37,6 +37,7 @@ impl<M: PricingModel> Market<M> {
     ) -> Result<Market<M>, (Refusal, M)>
         ensures { Makes listing.now day_limit model table.old result table.new }
     {
+        // a closure for `map_err` would take the model
         let products = match Products::new(listing, day_limit) {
             Ok(products) => products,
             Err(fault) => return Err((Refusal::Malformed(fault), model)),

@@ -10,11 +10,10 @@ use terms::malformed::Malformed;
 use terms::price::Price;
 use terms::right::Right;
 
-// What is above the count is not part of the ladder.
-// An array and its count: a ladder is Copy and takes no heap, and the kit's vector in an array is not Copy.
 #[derive(Clone, Copy, PartialEq, Eq, Debug)]
 pub struct Ladder {
-    rungs: [Rung; 32],
+    // what is above the count is not part of the ladder: a buffer, since no heap is at hand and an ArrayVec is not Copy
+    rungs: [Rung; Ladder::MOST],
     count: usize,
     ghost some: { 1 ≤ count },
     ghost few: { count ≤ 32 },
@@ -27,10 +26,8 @@ fn is_at_fault(rungs: &[Rung], k: usize) -> bool
     ensures { result ≡ at_fault rungs.now k }
 {
     let rung = rungs[k];
-    if rung.level < -1_000_000 || rung.level > 1_000_000 || rung.price > Price::HIGHEST {
-        return true;
-    }
-    k > 0 && rung.level <= rungs[k - 1].level
+    let in_range = (-1_000_000..=1_000_000).contains(&rung.level) && rung.price <= Price::HIGHEST;
+    !in_range || (k > 0 && rung.level <= rungs[k - 1].level)
 }
 
 impl Ladder {
@@ -46,7 +43,7 @@ impl Ladder {
         if count < 1 || count > Ladder::MOST {
             return Err(Malformed::Count);
         }
-        let mut own = [Rung::default(); 32];
+        let mut own = [Rung::default(); Ladder::MOST];
         for (k, rung) in rungs.iter().enumerate() {
             if is_at_fault(rungs, k) {
                 return Err(Malformed::Entry(k as u32));

@@ -1,35 +1,14 @@
 // One product's reference price and daily ticks.
-ghost use Rattle.std.specs.Prelude.{◌≡◌, []};
 ghost use Rattle.rules.specs.Calls.{adjust as adjusting, frenetic as widening, done, told};
-ghost use Rattle.rules.specs.Refusing.{fault};
-ghost use Rattle.terms.specs.Checked.{price_at};
-ghost use Rattle.terms.specs.Checks.{answered};
-ghost use Rattle.market.specs.Markets.{world_of, bare, Follows};
+ghost use Rattle.market.specs.Markets.{world_of, Follows};
 
-use listing::products::Products;
 use market::market::Market;
 use orders::row::OrderRow;
 use pricing::model::PricingModel;
-use rules::state::State;
 use rules::turns::hold_time;
 use tape::Tape;
 use terms::price::Price;
 use terms::refusal::Refusal;
-
-// The new reference price, once nothing stops it.
-fn adjusted(
-    state: State,
-    products: &Products,
-    time: u32,
-    product: u32,
-    price: u32,
-) -> Result<Price, Refusal>
-    ensures { result ≡ answered (fault (bare state products.now []) time (adjusting product price)) (price_at price) }
-{
-    hold_time(state, time)?;
-    let _ = products.product(product)?;
-    Ok(Price::try_from(price)?)
-}
 
 // One product's reference price from now on.
 pub fn adjust<M: PricingModel, T: Tape>(
@@ -40,12 +19,15 @@ pub fn adjust<M: PricingModel, T: Tape>(
     product: u32,
     price: u32,
 ) -> Result<(), Refusal>
-where
-    Refusal: From<T::Fault>,
     ensures { Follows (world_of M.PricingModel.tells T.Tape.records T.Tape.space market.old table.now tape.now) time (adjusting product price) (told (λ _. done) result) (world_of M.PricingModel.tells T.Tape.records T.Tape.space market.new table.now tape.now) }
 {
-    let reference = adjusted(market.state, &market.products, time, product, price)?;
-    let _ = market.products.adjust(product, reference, tape.count());
+    hold_time(market.state, time)?;
+    let _ = market.products.product(product)?;
+    let reference = Price::try_from(price)?;
+    market
+        .products
+        .adjust(product, reference, tape.count())
+        .unwrap();
     market.state.time = time;
     Ok(())
 }
@@ -59,8 +41,6 @@ pub fn frenetic<M: PricingModel, T: Tape>(
     product: u32,
     ticks: u32,
 ) -> Result<(), Refusal>
-where
-    Refusal: From<T::Fault>,
     ensures { Follows (world_of M.PricingModel.tells T.Tape.records T.Tape.space market.old table.now tape.now) time (widening product ticks) (told (λ _. done) result) (world_of M.PricingModel.tells T.Tape.records T.Tape.space market.new table.now tape.now) }
 {
     hold_time(market.state, time)?;

@@ -119,3 +119,6 @@ last_more product day rows n some in' =
     ∙ ap (last_of product day) (take_more rows (n - 1) blank (omega arith))
     ∙ last_push_from (of_day product day) 1 None (take (n - 1) rows) r
     ∙ ap (λ (k : ℕ). cond (of_day product day r) (Some k) (last_of product day (take (n - 1) rows))) f
+
+-- what a walk over a window uses
+pub ruleset window_steps = (back_taken, back_passed, back_done, turnover_bound, volume_bound)

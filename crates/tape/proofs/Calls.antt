@@ -1,19 +1,15 @@
 -- What a tape in memory answers to each call. Assumes nothing.
-use Rattle.std.proofs.Common.{◌≡◌, ℕ, suc, ◌+◌, ◌-◌, ◌<◌, ◌≤◌, true, false, leb, ◌≢◌, ◌⊎◌, length, Some, None, Option, sym, refl, ap, ◌∙◌, ⊎_elim, arith}
-use Rattle.std.proofs.lemmas.Bool.{and_from, and_left, and_right, and_parts, le-leb, lt-leb, leb-true, both_ways, cases_eq, cases_lt}
-use Rattle.std.specs.Option.{ok_or}
+use Rattle.std.proofs.Common.{◌≡◌, ℕ, suc, ◌+◌, ◌-◌, ◌<◌, ◌≤◌, true, false, leb, ◌≢◌, ◌⊎◌, length, refl, ap, ⊎_elim, arith}
+use Rattle.std.proofs.lemmas.Bool.{and_from, and_left, and_right, and_parts, le-leb, lt-leb, cases_eq, cases_lt}
 use Rattle.terms.specs.Numbers.{mark_number}
 use Rattle.terms.specs.declared.mark.Mark.{Mark}
 use Rattle.terms.specs.declared.mark.Mark.TheVariants.{Stands, Considered, Upheld, Cancelled}
-use Rattle.terms.specs.declared.missing.Missing.{Missing}
 use Rattle.tape.proofs.Memory.{length_placed, get_or_placed, latest_placed}
 use Rattle.tape.specs.Placed.{placed, FairPlaces, RisingPlaces}
 use Rattle.tape.specs.Ranges.{last_mark}
 use Rattle.tape.specs.Rows.{fair}
-use Rattle.tape.specs.Tapes.{blank, on_tape, record_at, marked, latest, Absent, Reads}
-use Rattle.tape.specs.Trades.{Checks}
+use Rattle.tape.specs.Tapes.{blank, on_tape, record_at, marked, latest}
 use Rattle.tape.specs.declared.row.TradeRow.{TradeRow}
-use Rattle.tape.specs.declared.trade.Trade.{Trade}
 
 module _ (at : ℕ → TradeRow) (used n : ℕ) where
   pub on_placed : 1 ≤ n → n ≤ used → on_tape (placed at used) n ≡ true
@@ -31,16 +27,6 @@ module _ (at : ℕ → TradeRow) (used n : ℕ) where
   pub record_placed : 1 ≤ n → n ≤ used → record_at (placed at used) n ≡ at (n - 1)
   record_placed low high = get_or_placed at used (n - 1) blank (omega arith)
 
-  module _ {F : Type 0} (told : F → Missing) (fault : F) (tells : told fault ≡ record { number = n; count = used }) where
-    pub absent_placed : (n < 1) ⊎ (used < n) → Absent told (placed at used) n fault
-    absent_placed out =
-        record { off = off_placed out; tells = tells ∙ ap (λ (k : ℕ). record { number = n; count = k }) (sym (length_placed at used)) }
-
-    pub reads_placed : 1 ≤ n → n ≤ used → FairPlaces at used → (found : Option Trade) → Checks (at (n - 1)) found → Reads told (placed at used) n (ok_or found fault)
-    reads_placed low high all None unfair = absurd (both_ways (fair (at (n - 1))) unfair (all (n - 1) (omega arith)))
-    reads_placed low high all (Some trade) checks =
-        record { there = on_placed low high; same = checks.1 ∙ sym (record_placed low high) }
-
 mark_low : (m : Mark) → leb (mark_number m) last_mark ≡ true
 mark_low Stands = refl
 mark_low Considered = refl
@@ -52,17 +38,7 @@ pub fair_marked : (r : TradeRow) (m : Mark) → fair r ≡ true → fair (marked
 unfolding fair
 fair_marked r m h = and_from (leb (mark_number m) last_mark) _ (mark_low m) (and_parts (leb r.mark last_mark) _ h).1
 
-pub fair_mark : (r : TradeRow) → fair r ≡ true → r.mark ≤ last_mark
-unfolding fair
-fair_mark r h = leb-true r.mark last_mark (and_parts (leb r.mark last_mark) _ h).0
-
 module _ (at at' : ℕ → TradeRow) (used : ℕ) where
-  pub fair_same : FairPlaces at used → ((k : ℕ) → k < used → at' k ≡ at k) → FairPlaces at' used
-  fair_same all below k lt = rw (below k lt) (all k lt)
-
-  pub rising_same : RisingPlaces at used → ((k : ℕ) → k < used → at' k ≡ at k) → RisingPlaces at' used
-  rising_same all below k lt = let l : k < used = omega arith in rw (below k l, below (suc k) lt) (all k lt)
-
   pub fair_push : FairPlaces at used → ((k : ℕ) → k < used → at' k ≡ at k) → fair (at' used) ≡ true → FairPlaces at' (used + 1)
   fair_push all below here k lt =
       ⊎_elim

@@ -12,7 +12,8 @@ pub fn trade_at<T: Tape>(tape: &T, n: u32) -> Result<Trade, Refusal>
     tape.read(n).map_err(Into::into)
 }
 
-// The time of the last record; 0 where there is none.
+// The time of the last record; with none 0, the earliest time there is.
+#[tactic(auto, using(crate::proofs::Times::latest_at, std::proofs::lemmas::Grind::common_steps))]
 pub fn last_time<T: Tape>(tape: &T) -> u32
     ensures { result ≡ latest (T.Tape.records tape.now) }
 {

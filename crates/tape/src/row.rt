@@ -1,5 +1,5 @@
 // A record of the tape as plain numbers: what memory holds, whether it is a trade or not.
-#[derive(Clone, Copy, PartialEq, Eq, Debug)]
+#[derive(Clone, Copy, PartialEq, Eq, Default, Debug)]
 pub struct TradeRow {
     pub product: u32,
     pub time: u32,

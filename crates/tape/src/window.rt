@@ -17,6 +17,7 @@ impl Sums {
     pub const WINDOW_SECONDS: u32 = 60;
 
     // Times never fall, so the walk goes back from the last record and stops at the first that is too old.
+    #[tactic(auto, using(crate::proofs::Back::window_steps))]
     pub fn before<T: Tape>(tape: &T, product: u32, time: u32) -> Sums
         ensures turnover { result.turnover ≡ worth_of (window product time (T.Tape.records tape.now)) }
         ensures volume { result.volume ≡ lots_of (window product time (T.Tape.records tape.now)) }

@@ -29,8 +29,8 @@ fn in_memory(rt: HostRuntime) -> Result<(), Fail> {
     }
     let mut second = BYTES;
     second[43] = 3;
-    assert_eq!(rt; &bytes[..48], BYTES.as_slice());
-    assert_eq!(rt; &bytes[48..96], second.as_slice());
-    assert_eq!(rt; bytes[96], 255);
+    let (records, rest) = bytes.as_chunks::<48>();
+    assert_eq!(rt; records, [BYTES, second].as_slice());
+    assert_eq!(rt; rest, [255].as_slice());
     Ok(())
 }

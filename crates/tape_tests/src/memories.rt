@@ -1,5 +1,5 @@
 // Memories of every awkward size: what they take, and what they say of a record that they lack.
-use crate::sample::{BLANK, EXAMPLE, trade};
+use crate::sample::{EXAMPLE, trade};
 use byte_tape::{ByteTape, Bytes};
 use lent_tape::no_record::NoRecord;
 use record_tape::{RecordTape, Records};
@@ -36,9 +36,9 @@ fn records_take(rt: &impl Abort, rows: &mut [TradeRow]) -> Result<u32, Fail> {
 
 #[test]
 fn sizes(rt: HostRuntime) -> Result<(), Fail> {
-    assert_eq!(rt; records_take(&rt, &mut [BLANK; 0])?, 0);
-    assert_eq!(rt; records_take(&rt, &mut [BLANK; 1])?, 1);
-    assert_eq!(rt; records_take(&rt, &mut [BLANK; 2])?, 2);
+    assert_eq!(rt; records_take(&rt, &mut [TradeRow::default(); 0])?, 0);
+    assert_eq!(rt; records_take(&rt, &mut [TradeRow::default(); 1])?, 1);
+    assert_eq!(rt; records_take(&rt, &mut [TradeRow::default(); 2])?, 2);
     assert_eq!(rt; bytes_take(&rt, &mut [0; 0])?, 0);
     assert_eq!(rt; bytes_take(&rt, &mut [0; 47])?, 0);
     assert_eq!(rt; bytes_take(&rt, &mut [0; 48])?, 1);
@@ -73,7 +73,7 @@ fn missing<T: Tape<Fault = NoRecord>>(rt: &impl Abort, tape: &mut T) -> Result<(
 
 #[test]
 fn missing_records(rt: HostRuntime) -> Result<(), Fail> {
-    let mut rows = [BLANK; 2];
+    let mut rows = [TradeRow::default(); 2];
     missing(&rt, &mut RecordTape::new(Records(&mut rows)))
 }
 
@@ -100,7 +100,7 @@ fn times<T: Tape>(rt: &impl Abort, tape: &mut T) -> Result<(), Fail> {
 
 #[test]
 fn times_on_both(rt: HostRuntime) -> Result<(), Fail> {
-    let mut rows = [BLANK; 3];
+    let mut rows = [TradeRow::default(); 3];
     times(&rt, &mut RecordTape::new(Records(&mut rows)))?;
     let mut bytes = [0; 144];
     times(&rt, &mut ByteTape::new(Bytes(&mut bytes)))

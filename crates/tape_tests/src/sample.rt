@@ -3,21 +3,6 @@ use std::test::Fail;
 use tape::row::TradeRow;
 use tape::trade::Trade;
 
-pub const BLANK: TradeRow = TradeRow {
-    product: 0,
-    time: 0,
-    price: 0,
-    quantity: 0,
-    buy: 0,
-    sell: 0,
-    buyer: 0,
-    seller: 0,
-    established: 0,
-    no_bust: 0,
-    mark: 0,
-    day: 0,
-};
-
 pub const EXAMPLE: TradeRow = TradeRow {
     product: 0,
     time: 100,

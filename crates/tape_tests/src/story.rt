@@ -1,5 +1,5 @@
 // A day of trades, told by any tape.
-use crate::sample::{BLANK, trade_of};
+use crate::sample::trade_of;
 use byte_tape::{ByteTape, Bytes};
 use record_tape::{RecordTape, Records};
 use std::process::Abort;
@@ -73,7 +73,7 @@ fn tell<T: Tape>(rt: &impl Abort, tape: &mut T) -> Result<Told, Fail> {
 
 #[test]
 fn both_tell_the_same(rt: HostRuntime) -> Result<(), Fail> {
-    let mut rows = [BLANK; 4];
+    let mut rows = [TradeRow::default(); 4];
     let mut bytes = [0; 192];
     let a = tell(&rt, &mut RecordTape::new(Records(&mut rows)))?;
     let b = tell(&rt, &mut ByteTape::new(Bytes(&mut bytes)))?;

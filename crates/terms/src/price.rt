@@ -43,6 +43,7 @@ impl Price {
     }
 }
 
+// Quantities and participants are made alike, and yet no type over two ends: what each is called, how it moves and by which field it is refused are its own.
 impl TryFrom<u32> for Price {
     ghost use Rattle.terms.specs.Checked.{price_if};
 

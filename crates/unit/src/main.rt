@@ -5,8 +5,8 @@ mod show;
 
 use crate::show::{Deal, Hex, Maybe};
 use book::outcome::Receipt;
-use byte_tape::ByteTape;
 use byte_tape::codec::encode;
+use byte_tape::{ByteTape, Bytes};
 use console::command::{Command, Order};
 use console::parse::parse_line;
 use desk::desk::Desk;
@@ -28,9 +28,9 @@ fn refuse(rt: &HostRuntime, refusal: Refusal) -> io::Result<()> {
 
 // The trades after so many, each on a line.
 fn show_trades(rt: &HostRuntime, tape: &ByteTape<'_>, before: u32) -> io::Result<()> {
-    for k in before..tape.count() {
-        if let Ok(trade) = trade_at(tape, k.saturating_add(1)) {
-            println!(rt; "  trade {} {}", k.saturating_add(1), Deal(trade.row()))?;
+    for number in before.saturating_add(1)..=tape.count() {
+        if let Ok(trade) = trade_at(tape, number) {
+            println!(rt; "  trade {number} {}", Deal(trade.into()))?;
         }
     }
     Ok(())
@@ -38,21 +38,25 @@ fn show_trades(rt: &HostRuntime, tape: &ByteTape<'_>, before: u32) -> io::Result
 
 fn show_hex(rt: &HostRuntime, tape: &ByteTape<'_>) -> io::Result<()> {
     println!(rt; "hex {}", tape.count())?;
-    for k in 0..tape.count() {
-        if let Ok(trade) = trade_at(tape, k.saturating_add(1)) {
-            let bytes = encode(trade.row());
+    for number in 1..=tape.count() {
+        if let Ok(trade) = trade_at(tape, number) {
+            let bytes = encode(trade.into());
             println!(rt; "  {}", Hex(&bytes))?;
         }
     }
     Ok(())
 }
 
-fn show_receipt(rt: &HostRuntime, r: Receipt) -> io::Result<()> {
-    let halt = if r.halted { "market" } else { "none" };
-    println!(rt;
-        "ok order {} traded {} rest {} trades {} halt {halt}",
-        r.number, r.traded, r.rest, r.trades
-    )
+fn show_receipt(rt: &HostRuntime, r: Receipt<bool>) -> io::Result<()> {
+    let Receipt {
+        number,
+        traded,
+        rest,
+        trades,
+        halt,
+    } = r;
+    let halted = if halt { "market" } else { "none" };
+    println!(rt; "ok order {number} traded {traded} rest {rest} trades {trades} halt {halted}")
 }
 
 fn enter(
@@ -109,7 +113,7 @@ fn main(rt: HostRuntime) -> io::Result<()> {
     let mut input = BufReader::new(rt.alloc(), rt.stdin())?;
     let mut table = vec![in rt.alloc(); OrderRow::FREE; PLACES]?;
     let mut memory = vec![in rt.alloc(); 0u8; TAPE_BYTES]?;
-    let mut tape = ByteTape::new(&mut memory);
+    let mut tape = ByteTape::new(Bytes(&mut memory));
     let mut desk = Desk::new();
     let mut line = Vec::new(rt.alloc());
     for number in 1..u64::MAX {

@@ -22,16 +22,20 @@ pub struct Deal(pub TradeRow);
 
 impl fmt::Display for Deal {
     fn fmt<W: fmt::Write>(&self, f: &mut fmt::Formatter<W>) -> fmt::Result {
-        let row = self.0;
+        let TradeRow {
+            price,
+            quantity,
+            buy,
+            sell,
+            buyer,
+            seller,
+            established,
+            ..
+        } = self.0;
+        write!(f, "price {price} quantity {quantity} buy {buy} sell {sell}")?;
         write!(
             f,
-            "price {} quantity {} buy {} sell {}",
-            row.price, row.quantity, row.buy, row.sell
-        )?;
-        write!(
-            f,
-            " buyer {} seller {} established {}",
-            row.buyer, row.seller, row.established
+            " buyer {buyer} seller {seller} established {established}"
         )
     }
 }

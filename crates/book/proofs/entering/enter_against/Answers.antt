@@ -9,7 +9,7 @@ use Rattle.book.specs.Entries.{planned, arriving_as, resting_row, settled}
 use Rattle.book.specs.Sweeps.{takes, due, Made, Unmade}
 use Rattle.book.specs.Walks.{matching}
 use Rattle.book.proofs.Entered.{place_free, none_free, full_table, full_tape, no_stamp, none_fails}
-use Rattle.book.proofs.Numbered.{given_next, none_given, as_planned, left_rests}
+use Rattle.book.proofs.Numbered.{given_next, none_given, as_planned}
 use Rattle.book.proofs.entering.enter_against.Goals as goal
 
 pub returns-in_err-index-clause-entered : goal.returns-in_err-index-clause-entered
@@ -74,13 +74,6 @@ returns-in_err-swept-clause-entered g c =
       u.same_table,
       u.same_tape,
     )
-
-pub settle-requires : goal.settle-requires
-settle-requires g c some =
-    let s = g.S.BookSide in
-    let swept = c.in_ok-swept.ensures.made in
-    let w = matching s.reaches s.code s.first c.args.o c.args.range c.args.table.now in
-    sym c.may_rest-whole.ensures ∙ left_rests c.may_rest-whole.result w (rw swept.rest at some)
 
 pub returns-clause-entered : goal.returns-clause-entered
 returns-clause-entered g c =

@@ -1,22 +1,11 @@
-use Rattle.std.proofs.Common.{◌≡◌, ◌-◌, true, length, sym, refl, ap, ◌∙◌, subst, arith}
+use Rattle.std.proofs.Common.{◌≡◌, ◌-◌, true, length, sym, ap, ◌∙◌, subst, arith}
 use Rattle.orders.specs.Queue.{queue}
 use Rattle.terms.specs.Checked.{lots_left}
 use Rattle.book.specs.Sweeps.{due, takes, Made}
 use Rattle.book.specs.Walks.{Walk, matching}
 use Rattle.book.specs.declared.outcome.Swept.{Swept}
-use Rattle.book.proofs.Conserved.{walk_conserves, not_killed, made_none, made_run}
+use Rattle.book.proofs.Conserved.{walk_conserves, not_killed, made_run}
 use Rattle.book.proofs.sweep.sweep.Goals as goal
-
-pub returns-then-planned-eq0-clause-made : goal.returns-then-planned-eq0-clause-made
-returns-then-planned-eq0-clause-made g c =
-    let s = g.S.BookSide in
-    let t = g.T.Tape in
-    let a = c.args.a in
-    let planned = c.plan_due-planned.ensures in
-    let plan = c.plan_due-planned.result in
-    let w = due c.args.whole (matching s.reaches s.code s.first a.order c.args.range c.args.table.now) in
-    let answer : Swept = record { traded = 0; rest = plan.rest; trades = 0; halted = plan.halted } in
-    made_none t.records t.space s.code a w c.args.table.now c.args.tape.now answer refl refl (sym c.if-planned-eq0.true ∙ planned.trades) refl planned.rest planned.halted
 
 pub overflow_sub-result : goal.overflow_sub-result
 overflow_sub-result g c =

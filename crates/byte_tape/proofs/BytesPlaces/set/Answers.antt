@@ -1,4 +1,4 @@
-use Rattle.std.proofs.Common.{◌≡◌, ◌+◌, ◌-◌, ◌*◌, ◌/◌, ◌≤◌, length, refl, ap, ◌∙◌, arith}
+use Rattle.std.proofs.Common.{◌≡◌, ◌+◌, ◌-◌, ◌*◌, ◌/◌, ◌≤◌, length, ap, ◌∙◌, arith}
 use Rattle.byte_tape.proofs.BytesPlaces.set.Goals as goal
 use Rattle.byte_tape.proofs.Places.{long_written, here_written, others_written}
 use Rattle.byte_tape.specs.Bytes.{record_bytes, decoded}

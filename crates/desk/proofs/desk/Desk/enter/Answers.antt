@@ -1,4 +1,4 @@
-use Rattle.std.proofs.Common.{◌≡◌, Ok, Err, Result, sym, refl, ap, ◌∙◌, subst}
+use Rattle.std.proofs.Common.{◌≡◌, Bool, Err, Result, sym, refl, ap, ◌∙◌, subst}
 use Rattle.std.proofs.lemmas.Result.{err_from_is_err_and}
 use Rattle.book.specs.Entries.{EntersFrom}
 use Rattle.book.specs.declared.outcome.Receipt.{Receipt}
@@ -29,21 +29,7 @@ returns-in_err-receipt g c =
     let pass = passes_with _ _ c.in_ok-incoming.incoming c.in_ok-incoming.ensures in
     let told : c.from_residual-in_err-receipt.result ≡ Err c.in_err-receipt.field-0.0 = p.1 ∙ ap (λ e. Err e) p.2 in
     let came =
-    subst (λ (r : Result Receipt Refusal). EntersFrom t.records t.space 1 self.stamp order.side (comes_in product table order) (tradeable_range product.reference.ticks product.daily) table tape r c.enter.new.table c.enter.new.tape) (sym told)
-    (as_came t.records t.space 1 self.stamp order.side table tape (Err c.in_err-receipt.field-0.0) c.enter.new.table c.enter.new.tape _ _ c.around-range.result _ pass.1 c.around-range.ensures c.in_err-receipt.ensures.entered) in
+    subst (λ (r : Result (Receipt Bool) Refusal). EntersFrom t.records t.space 1 self.stamp order.side (comes_in product table order) (tradeable_range product.reference.ticks product.daily) table tape r c.enter.new.table c.enter.new.tape) (sym told)
+    (as_came t.records t.space 1 self.stamp table tape (Err c.in_err-receipt.field-0.0) c.enter.new.table c.enter.new.tape _ _ c.range.result _ pass.1 c.range.ensures c.in_err-receipt.ensures.entered) in
     to_book t.records t.space _ product order self table tape _ _ _ _ is pass.0
     (record { enters = came; leaves = ap (after_entry self) (sym told) })
-
-pub returns : goal.returns
-returns g c =
-    let t = g.T.Tape in
-    let self = c.args.self.now in
-    let order = c.args.order in
-    let product = c.in_ok-product.product in
-    let table = c.args.table.now in
-    let tape = c.args.tape.now in
-    let is = listed_is _ product c.in_ok-product.ensures in
-    let pass = passes_with _ _ c.in_ok-incoming.incoming c.in_ok-incoming.ensures in
-    let came = as_came t.records t.space 1 self.stamp order.side table tape (Ok c.in_ok-receipt.receipt) c.enter.new.table c.enter.new.tape _ _ c.around-range.result _ pass.1 c.around-range.ensures c.in_ok-receipt.ensures.entered in
-    to_book t.records t.space _ product order self table tape _ _ _ _ is pass.0
-    (record { enters = came; leaves = refl })

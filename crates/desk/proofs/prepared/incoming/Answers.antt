@@ -1,6 +1,0 @@
-use Rattle.std.proofs.Common.{refl}
-use Rattle.desk.proofs.Same.{incoming_same}
-use Rattle.desk.proofs.prepared.incoming.Goals as goal
-
-pub returns : goal.returns
-returns c = incoming_same _ _ refl refl refl refl refl refl refl refl refl
