@@ -11,7 +11,7 @@ use Rattle.orders.specs.Rows.{duration_code, duration_date}
 use Rattle.rules.specs.Arrivals.{Arrival}
 use Rattle.rules.specs.Entering.{entry, limit_or}
 use Rattle.rules.specs.Refusing.{limit_check}
-use Rattle.rules.specs.Worlds.{World, sweep_in}
+use Rattle.rules.specs.Worlds.{World, product_of, sweep_in}
 use Rattle.rules.specs.declared.new_order.NewOrder.{NewOrder}
 use Rattle.established.specs.Established.{Moment, established as landed}
 use Rattle.rules.proofs.Prices.{same_price}
@@ -23,7 +23,9 @@ use Rattle.terms.specs.Checks.{answered, earliest}
 use Rattle.terms.specs.Durations.{may_rest}
 use Rattle.terms.specs.declared.price.Price.{Price}
 use Rattle.terms.specs.declared.refusal.Refusal.{Refusal}
-use Rattle.entering.specs.Entries.{front_checks, admitted_as}
+use Rattle.listing.specs.declared.product.Product.{Product}
+use Rattle.entering.specs.declared.admitted.Numbers.{Numbers}
+use Rattle.entering.specs.Entries.{front_checks, place_checks, number_checks, trading_checks, numbers_as, admitted_as}
 use Rattle.entering.specs.declared.admitted.Admitted.{Admitted}
 use Rattle.market.proofs.Passed.{passed, unless_passed, price_ticks, quantity_lots, participant_number}
 use Rattle.market.proofs.Ways.{fails_with, passes_with, earlier_fails, later_is}
@@ -43,6 +45,15 @@ earlier_answers xs ys v w e h = ap (λ o. answered o w) (earlier_fails xs ys e (
 -- and once the first passed, the second answers
 pub later_answers : {A B : Type 0} (xs ys : List (Option Refusal)) (v x : A) (w : B) → Ok x ≡ answered (earliest xs) v → answered (earliest (xs ++ ys)) w ≡ answered (earliest ys) w
 later_answers xs ys v x w h = ap (λ o. answered o w) (later_is xs ys (passes_with _ v x h).0)
+
+-- an entry whose place and numbers passed may be stopped by a halt or the sweep price alone
+pub trading_left : (w : World) (time : ℕ) (o : NewOrder) (p : Product) (n : Numbers) → Ok p ≡ answered (earliest (place_checks w time o)) (product_of w o.product) → Ok n ≡ answered (earliest (number_checks w.state.day o)) (numbers_as o) →
+    answered (earliest (front_checks w time o)) (admitted_as w o) ≡ answered (earliest (trading_checks w o)) (admitted_as w o)
+trading_left w time o p n placed numbered =
+    let a = place_checks w time o in
+    let b = number_checks w.state.day o in
+    let d = trading_checks w o in
+    later_answers a (b ++ d) _ _ (admitted_as w o) placed ∙ later_answers b d _ _ (admitted_as w o) numbered
 
 pub listed_below : (ps : Products) (n : ℕ) → listed_check (contents ps) n ≡ None → n < ps.count
 listed_below ps n e = ltb-true n ps.count (unless_passed _ _ e)

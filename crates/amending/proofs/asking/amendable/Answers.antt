@@ -1,11 +1,10 @@
-use Rattle.std.proofs.Common.{◌≡◌, ℕ, ◌<◌, Ok, sym, refl, ap, ◌∙◌, subst, arith}
+use Rattle.std.proofs.Common.{◌≡◌, ◌<◌, sym, refl, ap, ◌∙◌, arith}
 use Rattle.std.proofs.lemmas.Bool.{lt-ltb}
 use Rattle.std.proofs.lemmas.Result.{err_from_is_err_and}
 use Rattle.std.specs.Bool.{then_some}
 use Rattle.listing.specs.Questions.{sweep_of}
 use Rattle.orders.specs.Queue.{slot_of}
 use Rattle.orders.specs.Questions.{best_facing}
-use Rattle.rules.specs.Owners.{OwnOrder}
 use Rattle.rules.specs.Worlds.{product_of}
 use Rattle.market.specs.Markets.{bare}
 use Rattle.market.proofs.Ways.{fails_with, passes_with}
@@ -24,7 +23,7 @@ returns-in_err-hold_limit g c =
     let w = bare c.args.market.now.state c.args.market.now.products c.args.table.now in
     let e = c.in_ok-entry.entry in
     let t = c.in_ok-terms.terms in
-    let own = subst (λ (n : ℕ). OwnOrder n w.table c.args.m.participant c.args.m.order (Ok e)) c.count.ensures c.in_ok-entry.ensures in
+    let own = rw c.count.ensures at c.in_ok-entry.ensures in
     let product : c.unwrap-product.result ≡ product_of w e.order.product = (passes_with _ _ _ (sym c.unwrap-product.ensures ∙ c.product.ensures)).1 in
     let p = err_from_is_err_and c.from_residual-in_err-hold_limit.result c.from_residual-in_err-hold_limit.ensures.1 in
     rw (p.1, p.2)
@@ -37,7 +36,7 @@ returns g c =
     let w = bare c.args.market.now.state c.args.market.now.products c.args.table.now in
     let e = c.in_ok-entry.entry in
     let t = c.in_ok-terms.terms in
-    let own = subst (λ (n : ℕ). OwnOrder n w.table c.args.m.participant c.args.m.order (Ok e)) c.count.ensures c.in_ok-entry.ensures in
+    let own = rw c.count.ensures at c.in_ok-entry.ensures in
     let product : c.unwrap-product.result ≡ product_of w e.order.product = (passes_with _ _ _ (sym c.unwrap-product.ensures ∙ c.product.ensures)).1 in
     record {
       passes =

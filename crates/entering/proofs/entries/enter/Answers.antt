@@ -1,5 +1,4 @@
-use Rattle.std.proofs.Common.{◌≡◌, ℕ, ◌+◌, ◌<◌, Ok, Err, sym, refl, ap, ◌∙◌, subst}
-use Rattle.book.specs.Entries.{EntersFrom}
+use Rattle.std.proofs.Common.{◌≡◌, ℕ, ◌+◌, ◌<◌, sym, refl, ap, ◌∙◌, subst}
 use Rattle.listing.specs.Changes.{contents}
 use Rattle.rules.specs.Arrivals.{Arrival}
 use Rattle.rules.specs.Calls.{enter, received}
@@ -33,7 +32,7 @@ returns-in_err-done g c =
     let ranged : c.in_ok-range.range ≡ range_in w i.product = (passes_with _ _ _ c.in_ok-range.ensures).1 ∙ ap (range_in w) (sym product) in
     let e = c.in_err-done.field-0.0 in
     let down = turned_down t.records t.space m.state w.products w.tells w.table c.args.tape.now i c.in_ok-range.range listed ranged e c.enter.new.table c.enter.new.tape
-    (subst (λ (n : ℕ). EntersFrom t.records t.space n m.state.stamp i.side i c.in_ok-range.range w.table c.args.tape.now (Err e) c.enter.new.table c.enter.new.tape) c.count.ensures c.in_err-done.ensures.entered) in
+    (rw c.count.ensures at c.in_err-done.ensures.entered) in
     step_refused w c.args.time (enter o) received c.from_residual-in_err-done.result e _
     (entry_refused w c.args.time o came.passes (plain i (w.state.stamp + 1)) came.same e down.0)
     (handed_on _ e c.from_residual-in_err-done.ensures.1 c.from_residual-in_err-done.ensures.0)
@@ -57,7 +56,7 @@ returns g c =
     let entered =
     taken_in t.records t.space m.state w.products w.tells w.table c.args.tape.now i c.in_ok-range.range listed ranged worth width (ap (λ (a : Arrival). a.entered) came.same)
     c.in_ok-done.done c.enter.new.table c.enter.new.tape
-    (subst (λ (n : ℕ). EntersFrom t.records t.space n m.state.stamp i.side i c.in_ok-range.range w.table c.args.tape.now (Ok c.in_ok-done.done) c.enter.new.table c.enter.new.tape) c.count.ensures c.in_ok-done.ensures.entered) c.in_ok-done.ensures.room in
+    (rw c.count.ensures at c.in_ok-done.ensures.entered) c.in_ok-done.ensures.room in
     let noted = c.note_arrival-halt.ensures in
     rw (c.with_halt.ensures, c.note_arrival-halt.ensures.model)
     (entry_taken w c.args.time o came.passes (plain i (w.state.stamp + 1)) came.same c.in_ok-done.done c.note_arrival-halt.result
