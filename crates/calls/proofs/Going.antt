@@ -17,7 +17,11 @@ use Rattle.terms.specs.Checks.{answered, left_by}
 use Rattle.terms.specs.declared.determination.Determination.{Determination}
 use Rattle.terms.specs.declared.determination.Determination.TheVariants.{Upheld, Cancelled}
 use Rattle.terms.specs.declared.refusal.Refusal.{Refusal}
-use Rattle.calls.specs.Applied.{GoesOn, Heard}
+use Rattle.std.specs.Result.{IsErr, IsErrAnd}
+use Rattle.calls.specs.Applied.{GoesOn, Heard, Applied}
+use Rattle.calls.specs.declared.call.Answer.{Answer}
+use Rattle.calls.specs.declared.call.Undone.{Undone}
+use Rattle.calls.specs.declared.call.Undone.TheVariants.{Refused}
 use Rattle.calls.specs.Keeping.{Kept, trades_of, kept_on, keeps, kept_after, without_first, Finds}
 use Rattle.calls.proofs.Lists.{kept_last, one_less, first_found, one_kept, put_back}
 
@@ -117,6 +121,24 @@ answered_by {w} {time} {c} {d} {r} {s} {w'} {kept} same is leaves has step =
     unchanged : (x : Result RuleAnswer Refusal) → kept ≡ kept_after d x kept
     unchanged (Ok a) = leaves
     unchanged (Err e) = refl
+
+-- a refusal is told as it is
+pub told_so : (x : Result Answer Undone) (e : Refusal) → IsErr x → IsErrAnd x (λ u. u ≡ Refused e) → x ≡ Err (Refused e)
+told_so (Ok a) e is that = absurd (let z : ◌≡◌ {A = ℕ} 0 1 = cc in let y : ⊥ = omega arith in y)
+told_so (Err u) e is that = ap Err that
+
+-- it is heard so
+pub refused_so : {w : World} {time : ℕ} {c : Call} {x : Result Answer Undone} {w' : World} {kept kept' : List ℕ} (e : Refusal) →
+    x ≡ Err (Refused e) → Heard w time c kept (Err e) w' kept' → Applied w time c kept x w' kept'
+refused_so {w} {time} {c} {x} {w'} {kept} {kept'} e is heard =
+    subst (λ (r : Result Answer Undone). Applied w time c kept r w' kept') (sym is) heard
+
+-- of a call that is refused
+pub refused_by : {w : World} {time : ℕ} {c d : Call} {x : Result Answer Undone} {w' : World} (kept : List ℕ) (e : Refusal) →
+    c ≡ d → x ≡ Err (Refused e) → HasCase d kept → Step w time d (Err e) w' → Applied w time c kept x w' kept
+refused_by {w} {time} {c} {d} {x} {w'} kept e same is has step =
+    refused_so e is
+    (subst (λ (a : Call). Heard w time a kept (Err e) w' kept) (sym same) (made_by w time d (Err e) w' kept kept step refl has))
 
 module _ (w : World) (time n : ℕ) (w' : World) (cs cs' : List Case) where
   its_trade : (o : Option Refusal) (k : ℕ) → Ok (case_on k) ≡ answered o (case_on n) → k ≡ n

@@ -1,4 +1,6 @@
 // One call of any kind on a market, its order table, its tape and the cases kept beside them.
+ghost use Rattle.std.specs.Prelude.{◌≡◌, ◌<◌, ◌≤◌, vec_len, vec_capacity};
+ghost use Rattle.std.specs.List.{insert};
 ghost use Rattle.market.specs.Markets.{world_of};
 ghost use Rattle.rules.specs.Calls.{request as requesting, determine as determining};
 ghost use Rattle.calls.specs.Applied.{Applied};
@@ -25,6 +27,15 @@ fn find_case(cases: &[Case], trade: u32) -> Option<usize>
     ensures { Finds trade cases.now result }
 {
     cases.iter().position(|case| case.trade() == trade)
+}
+
+// A case goes back to its place, for which there is room.
+fn put_back(cases: &mut Vec<Case>, i: usize, case: Case)
+    requires within { i ≤ vec_len cases.old }
+    requires room { vec_len cases.old < vec_capacity cases.old }
+    ensures { cases.new.items ≡ insert cases.old.items i case }
+{
+    cases.insert(i, case).unwrap();
 }
 
 // A trade is questioned, and its case is kept; without room for one nothing is asked.
@@ -57,13 +68,17 @@ fn determine_kept<M: PricingModel, T: Tape>(
 ) -> Result<Answer, Undone>
     ensures { Applied (world_of M.PricingModel.tells T.Tape.records T.Tape.space market.old table.now tape.old) time (determining trade verdict) (kept_in cases.old) result (world_of M.PricingModel.tells T.Tape.records T.Tape.space market.new table.now tape.new) (kept_in cases.new) }
 {
-    let i = find_case(cases, trade).ok_or(Undone::NoCase(trade))?;
+    let Some(i) = find_case(cases, trade) else {
+        return Err(Undone::NoCase(trade));
+    };
     let case = cases.remove(i);
-    if let Err((refusal, case)) = determine(market, table, tape, time, case, verdict) {
-        cases.insert(i, case).unwrap();
-        return Err(refusal.into());
+    match determine(market, table, tape, time, case, verdict) {
+        Ok(()) => Ok(Answer::Done),
+        Err((refusal, case)) => {
+            put_back(cases, i, case);
+            Err(Undone::Refused(refusal))
+        }
     }
-    Ok(Answer::Done)
 }
 
 // The call by its rule; with it every history goes on, and every law holds.
