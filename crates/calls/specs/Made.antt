@@ -1,9 +1,8 @@
 -- A call, an answer and a result as the rules have them. Assumes nothing.
-use Rattle.std.specs.Prelude.{Result}
+
 use Rattle.rules.specs.Calls.{Call as RuleCall, Answer as RuleAnswer}
 use Rattle.rules.specs.Calls.{roll, open_session, close_session, enter, amend, withdraw, adjust, frenetic, resume, request, determine}
-use Rattle.rules.specs.Calls.{done, removed, received, left_with, case_on, told}
-use Rattle.terms.specs.declared.refusal.Refusal.{Refusal}
+use Rattle.rules.specs.Calls.{done, removed, received, left_with, case_on}
 use Rattle.calls.specs.declared.call.Call.{Call}
 use Rattle.calls.specs.declared.call.Call.TheVariants.{Roll, Open, Close, Enter, Amend, Withdraw, Adjust, Frenetic, Resume, Request, Determine}
 use Rattle.calls.specs.declared.call.Answer.{Answer}
@@ -28,6 +27,3 @@ answer_of (Removed orders) = removed orders
 answer_of (Received receipt) = received receipt
 answer_of (LeftWith quantity) = left_with quantity
 answer_of (CaseOn n) = case_on n
-
-abbrev pub heard : Result Answer Refusal → Result RuleAnswer Refusal
-heard r = told answer_of r
