@@ -1,10 +1,10 @@
 // The two sides of the book: which order comes first, and which price a limit reaches.
-ghost use Rattle.std.specs.Prelude.{◌≡◌, ℕ, Bool, true, false, not, ◌≢◌, nat_le};
+ghost use Rattle.std.specs.Prelude.{◌≡◌, ℕ, Bool, true, false, not, ◌&&◌, ◌||◌, ◌≢◌, ◌==◌, nat_le, nat_lt};
 ghost use Rattle.orders.specs.Orders.{row_of};
 ghost use Rattle.orders.specs.Queue.{higher_first, lower_first};
 ghost use Rattle.orders.specs.Rows.{side_code};
 ghost use Rattle.orders.specs.declared.row.OrderRow.{OrderRow as Row};
-ghost use Rattle.orders.specs.Ranks.{ByPrice, higher_by_price, lower_by_price, first_oneway, first_chain, first_decided, first_nearer};
+ghost use Rattle.orders.specs.Ranks.{higher_by_price, lower_by_price, first_oneway, first_chain, first_decided, first_nearer};
 
 use crate::order::Order;
 use terms::price::Price;
@@ -22,26 +22,27 @@ pub trait BookSide {
     fn side() -> Side
         ensures { side_code result ≡ code };
 
+    fn comes_first(a: Order, b: Order) -> bool
+        ensures { result ≡ first (row_of a) (row_of b) };
+
     fn reached(limit: Price, price: Price) -> bool
         ensures { result ≡ reaches limit.ticks price.ticks };
 
-    // A price that the other one, as a limit, does not reach is the better one; at one price the earlier order comes first.
-    final fn comes_first(a: Order, b: Order) -> bool
-        ensures { result ≡ first (row_of a) (row_of b) }
-    {
-        !Self::reached(a.price, b.price) || (a.price == b.price && a.place < b.place)
-    }
+    ghost oneway: { (a b : Row) → first a b ≡ true → first b a ≡ false };
 
-    ghost by_price: { ByPrice first reaches };
+    ghost chain: { (a b c : Row) → first a b ≡ false → first b c ≡ false → first a c ≡ false };
 
-    ghost oneway: { (a b : Row) → first a b ≡ true → first b a ≡ false } = { first_oneway by_price };
-
-    ghost chain: { (a b c : Row) → first a b ≡ false → first b c ≡ false → first a c ≡ false } = { first_chain by_price };
-
-    ghost decided: { (a b : Row) → (a.place ≢ b.place) → first a b ≡ not (first b a) } = { first_decided by_price };
+    ghost decided: { (a b : Row) → (a.place ≢ b.place) → first a b ≡ not (first b a) };
 
     // a limit that reaches an order reaches every one that stands no further back in price
-    ghost nearer: { (a b : Row) (limit : ℕ) → first b a ≡ false → reaches limit b.price ≡ true → reaches limit a.price ≡ true } = { first_nearer by_price };
+    ghost nearer: { (a b : Row) (limit : ℕ) → first b a ≡ false → reaches limit b.price ≡ true → reaches limit a.price ≡ true };
+}
+
+// A price that the other one, as a limit, does not reach is the better one; at one price the earlier order comes first.
+fn is_ahead(reached: bool, a: Order, b: Order) -> bool
+    ensures { result ≡ (not reached || (a.price.ticks == b.price.ticks && nat_lt a.place.number b.place.number)) }
+{
+    !reached || (a.price == b.price && a.place < b.place)
 }
 
 pub struct Buys;
@@ -55,10 +56,20 @@ impl BookSide for Buys {
 
     ghost reaches = { λ limit price. nat_le limit price };
 
-    ghost by_price = { higher_by_price };
+    ghost oneway = { first_oneway higher_by_price };
+
+    ghost chain = { first_chain higher_by_price };
+
+    ghost decided = { first_decided higher_by_price };
+
+    ghost nearer = { first_nearer higher_by_price };
 
     fn side() -> Side {
         Side::Buy
+    }
+
+    fn comes_first(a: Order, b: Order) -> bool {
+        is_ahead(Buys::reached(a.price, b.price), a, b)
     }
 
     fn reached(limit: Price, price: Price) -> bool {
@@ -73,10 +84,20 @@ impl BookSide for Sells {
 
     ghost reaches = { λ limit price. nat_le price limit };
 
-    ghost by_price = { lower_by_price };
+    ghost oneway = { first_oneway lower_by_price };
+
+    ghost chain = { first_chain lower_by_price };
+
+    ghost decided = { first_decided lower_by_price };
+
+    ghost nearer = { first_nearer lower_by_price };
 
     fn side() -> Side {
         Side::Sell
+    }
+
+    fn comes_first(a: Order, b: Order) -> bool {
+        is_ahead(Sells::reached(a.price, b.price), a, b)
     }
 
     fn reached(limit: Price, price: Price) -> bool {
