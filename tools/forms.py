@@ -21,7 +21,7 @@ POINTS = {
     "2 twins of answers": r"fn as_(done|removed|received|left)\(|fn lots\(|fn (placed|changed)\(|pub struct (Receipt|NoRecord|Unwritten)\b",
     "2 twins of parsing": r"fn (number|side|limit|span)_from\(",
     "2 checked numbers made one by one": r"fn new\((ticks|lots|number): u32\)",
-    "3 index loops": r"\bfor (i|k|n) in .*\.\.",
+    "3 index loops": r"\bfor (i|k|n|number) in .*\.\.",
     "4 numbers compared in place of values": r"\.(ticks|lots|number)\(\) *(<=|>=|<|>|==|!=)",
     "4 conversions as functions": r"fn (number|of|row|order|trade|read_side|read_duration|side_code|duration_code|duration_date)\((self|number: u32|code: u32|side: Side|duration: Duration)",
     "4 equality and choice written out": r"fn (same_side|is_future|in_session|is_closed|ends_day|span)\(",
@@ -31,8 +31,8 @@ POINTS = {
     "5 a number that is not 0": r"1 ≤ (number|place|buy|sell) }",
     "5 state and products side by side": r"^\s*state: (&mut )?State,$|state: State, *products",
     "5 what a price is worked out from": r"^\s*(day: u32,|pub day: u32,)$|day: u32, time: u32",
-    "6 a buffer with a count": r"^\s*(rungs|rows): \[.*; 32\],|^\s*used: u32,",
-    "7 a switch on which step to run": r"enum Class|class: Class",
+    "6 a buffer with a count": r"^\s*(rungs|rows): \[\w+; [\w:]+\],|^\s*(pub\(crate\) )?used: u32,",
+    "7 a switch on which step to run": r"enum (Class|Verb|Span|Turn)\b|class: Class",
 }
 
 
