@@ -10,8 +10,12 @@ use crate::codec::{RECORD_BYTES, decode_at, encode};
 use lent_tape::LentTape;
 use lent_tape::places::Places;
 use tape::row::TradeRow;
+use terms::mark::Mark;
 
 pub type ByteTape<'a> = LentTape<Bytes<'a>>;
+
+// Where the four bytes of a record's mark begin.
+const MARK_OFFSET: usize = 40;
 
 // Bytes that are no whole record are of no use.
 #[derive(Drop)]
@@ -37,6 +41,13 @@ impl Places for Bytes<'_> {
         if place < self.size() {
             let at = RECORD_BYTES * place;
             self.0[at..at + RECORD_BYTES].copy_from_slice(&encode(row));
+        }
+    }
+
+    fn mark(&mut self, place: usize, mark: Mark) {
+        if place < self.size() {
+            let at = RECORD_BYTES * place + MARK_OFFSET;
+            self.0[at..at + 4].copy_from_slice(&u32::from(mark).to_be_bytes());
         }
     }
 }

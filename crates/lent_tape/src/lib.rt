@@ -11,7 +11,6 @@ pub mod places;
 use crate::no_record::NoRecord;
 use crate::places::Places;
 use tape::fault::AddFault;
-use tape::row::TradeRow;
 use tape::trade::Trade;
 use tape::{RECORDS, Tape};
 use terms::mark::Mark;
@@ -113,11 +112,7 @@ impl<P: Places> Tape for LentTape<P> {
 
     fn mark(&mut self, n: u32, mark: Mark) -> Result<(), NoRecord> {
         let place = self.place(n)?;
-        let marked = TradeRow {
-            mark: mark.into(),
-            ..self.places.get(place).unwrap()
-        };
-        self.places.set(place, marked);
+        self.places.mark(place, mark);
         Ok(())
     }
 }

@@ -7,6 +7,7 @@ ghost use Rattle.tape.specs.Tapes.{blank};
 use lent_tape::LentTape;
 use lent_tape::places::Places;
 use tape::row::TradeRow;
+use terms::mark::Mark;
 
 pub type RecordTape<'a> = LentTape<Records<'a>>;
 
@@ -29,6 +30,12 @@ impl Places for Records<'_> {
     fn set(&mut self, place: usize, row: TradeRow) {
         if place < self.size() {
             self.0[place] = row;
+        }
+    }
+
+    fn mark(&mut self, place: usize, mark: Mark) {
+        if place < self.size() {
+            self.0[place].mark = mark.into();
         }
     }
 }

@@ -13,9 +13,12 @@ returns-then-place-size c =
     let long : length part ≡ record_bytes = ap length is ∙ ap length c.encode.ensures.value in
     let all : n ≡ record_bytes = omega arith in
     let in' : record_bytes * k + record_bytes ≤ length bytes = omega arith in
+    let whole : length part ≡ n = omega arith in
+    let low : record_bytes * k ≤ record_bytes * k = omega arith in
+    let high : record_bytes * k + n ≤ record_bytes * k + record_bytes = omega arith in
     record {
-      sized = ap (λ (m : _). m / record_bytes) (long_written bytes part k n long all in');
+      sized = ap (λ (m : _). m / record_bytes) (long_written bytes part k (record_bytes * k) n whole low high in');
       here = λ lt. here_written bytes part k n long all in' ∙ ap decoded is ∙ c.encode.ensures.back;
-      others = others_written bytes part k n long all in';
+      others = others_written bytes part k (record_bytes * k) n whole low high in';
       past = λ le. let z : ⊥ = omega arith in absurd z;
     }
