@@ -1,23 +1,39 @@
--- Words of digits as the library reads them. Assumes nothing.
-use Rattle.std.proofs.Common.{◌≡◌, ℕ, ◌^◌, ◌<◌, true, List, length, fold, Ok, Err, Result, arith, rules}
-use Rattle.std.specs.Result.{result_ok, OkIff}
-use Rattle.std.specs.Str.{IsUtf8}
-use Rattle.std.specs.Str.Parse.{ParsesUnsigned}
-use Rattle.std.proofs.lemmas.Str.{IsUtf8-from_ascii}
-use Rattle.std.proofs.lemmas.Fmt.{IsAscii-from_digits}
-use Rattle.std.proofs.lemmas.Str.Parse.{IsNumeralModel, numerals_by_fold, parse_digits}
-use Rattle.std.proofs.lemmas.Bool.Decides.{nat_tests}
+-- Words of digits, read from the front. Assumes nothing.
+use Rattle.std.proofs.Common.{◌≡◌, ℕ, zero, suc, ◌+◌, ◌^◌, ◌<◌, ◌≤◌, true, false, not, ◌&&◌, eqb, List, [], ◌∷◌, length, get_or, take, Some, None, fold, refl, ◌∙◌, ⊎_elim, arith}
+use Rattle.std.proofs.lemmas.Bool.{cases_Bool, and_right, and_from, le-ltb, lt-ltb, ne_eqb}
+use Rattle.std.proofs.lemmas.List.Folds.{list_all_more, list_all_at}
+use Rattle.std.proofs.lemmas.List.Sums.{fold_more}
+use Rattle.std.specs.Char.{is_ascii_digit}
 use Rattle.reading.specs.Numerals.{digit_more, decimal_value, digits, numeral}
 
-model : IsNumeralModel (λ ds. digits ds ≡ true) decimal_value
-model = numerals_by_fold _ (search rules) (fold digit_more) (search rules)
+pub digits_more : (xs : List ℕ) (i : ℕ) → i < length xs → digits (take i xs) ≡ true → is_ascii_digit (get_or xs i 0) ≡ true → digits (take (i + 1) xs) ≡ true
+digits_more xs i l h d = list_all_more is_ascii_digit xs i 0 l ∙ and_from _ _ h d
 
-read : {E : Type 0} (word : List ℕ) (r : Result ℕ E) → digits word ≡ true → OkIff r ((0 < length word) × (decimal_value word < 2 ^ 32)) (decimal_value word) → result_ok r ≡ numeral word
-read word (Ok x) d h = let some = h.0.0 in let small = h.0.1 in let e = h.1 in grind (arith, nat_tests)
-read word (Err e) d h = grind (arith, nat_tests)
+grows : (n : ℕ) (cs : List ℕ) → n ≤ fold digit_more n cs
+grows n [] = omega arith
+grows n (c ∷ cs) = omega (arith, grows (digit_more n c) cs)
 
-pub parsed : {E : Type 0} (word : List ℕ) (r : Result ℕ E) → digits word ≡ true → ParsesUnsigned 32 10 word r → result_ok r ≡ numeral word
-parsed word r d h = read word r d (parse_digits model 32 word r h d)
+-- more digits never make a smaller number
+front_smaller : (xs : List ℕ) (i n : ℕ) → fold digit_more n (take i xs) ≤ fold digit_more n xs
+front_smaller [] zero n = omega arith
+front_smaller [] (suc i) n = omega arith
+front_smaller (x ∷ xs) zero n = grows n (x ∷ xs)
+front_smaller (x ∷ xs) (suc i) n = front_smaller xs i (digit_more n x)
 
-pub digits_utf8 : (word : List ℕ) → digits word ≡ true → IsUtf8 word
-digits_utf8 word d = IsUtf8-from_ascii word (IsAscii-from_digits word (model.to word d))
+pub none_undigit : (xs : List ℕ) (i : ℕ) → i < length xs → is_ascii_digit (get_or xs i 0) ≡ false → numeral xs ≡ None
+none_undigit xs i l d = rw (list_all_at is_ascii_digit xs i 0 l d, and_right (not (eqb (length xs) 0)) false refl)
+
+pub none_large : (xs : List ℕ) (i : ℕ) → 2 ^ 32 ≤ decimal_value (take i xs) → numeral xs ≡ None
+none_large xs i h =
+    rw (le-ltb (decimal_value xs) (2 ^ 32) (omega (arith, front_smaller xs i 0)), and_right (not (eqb (length xs) 0) && digits xs) false refl)
+
+-- a byte that is no digit, or makes the number too large, leaves none
+pub none_more : (xs : List ℕ) (i : ℕ) → i < length xs → ((is_ascii_digit (get_or xs i 0) ≡ true) × (digit_more (decimal_value (take i xs)) (get_or xs i 0) < 2 ^ 32) → ⊥) → numeral xs ≡ None
+none_more xs i l never =
+    ⊎_elim
+    (λ d. let small : digit_more (decimal_value (take i xs)) (get_or xs i 0) < 2 ^ 32 → ⊥ = λ s. never (d, s) in none_large xs (i + 1) (omega (arith, fold_more digit_more 0 xs i 0 l, small)))
+    (λ d. none_undigit xs i l d)
+    (cases_Bool (is_ascii_digit (get_or xs i 0)))
+
+pub some_number : (xs : List ℕ) → (length xs ≡ 0 → ⊥) → digits xs ≡ true → decimal_value xs < 2 ^ 32 → numeral xs ≡ Some (decimal_value xs)
+some_number xs n d h = rw (ne_eqb (length xs) 0 n, d, lt-ltb (decimal_value xs) (2 ^ 32) h)

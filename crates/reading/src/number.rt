@@ -1,20 +1,29 @@
 // Decimal numbers of 32 bits.
-ghost use Rattle.std.specs.Prelude.{◌≡◌};
-ghost use Rattle.reading.specs.Numerals.{digits, numeral};
+ghost use Rattle.std.specs.Prelude.{◌≡◌, ◌^◌, ◌<◌, true};
+ghost use Rattle.std.specs.Char.{is_ascii_digit};
+ghost use Rattle.std.specs.Option.{SomeIff};
+ghost use Rattle.reading.specs.Numerals.{digit_more, numeral};
 
-fn is_digits(word: &[u8]) -> bool
-    ensures { result ≡ digits word.now }
+// A number with one digit more at its end; none for a byte that is no digit, and none past 32 bits.
+fn then_digit(value: u32, byte: u8) -> Option<u32>
+    ensures { SomeIff result ((is_ascii_digit byte ≡ true) × (digit_more value byte < 2 ^ 32)) (digit_more value byte) }
 {
-    word.iter().all(|b| b.is_ascii_digit())
+    if !byte.is_ascii_digit() {
+        return None;
+    }
+    value.checked_mul(10)?.checked_add(u32::from(byte - b'0'))
 }
 
 // The number that a word of digits writes; none for any other word, and none past 32 bits.
 pub fn number(word: &[u8]) -> Option<u32>
     ensures { result ≡ numeral word.now }
 {
-    // `parse` takes a plus sign too
-    if !is_digits(word) {
+    if word.is_empty() {
         return None;
     }
-    str::from_utf8(word).ok()?.parse().ok()
+    let mut value = 0;
+    for byte in word {
+        value = then_digit(value, *byte)?;
+    }
+    Some(value)
 }

@@ -1,6 +1,7 @@
 // A line as words between blanks. A `#` begins a comment, which is no part of the line.
 ghost use Rattle.std.specs.Prelude.{◌≡◌, ◌≤◌, length};
 ghost use Rattle.std.specs.List.{prefix_len};
+ghost use Rattle.std.specs.Str.{bytes_eq};
 ghost use Rattle.reading.specs.Words.{blank, solid, no_comment, first_word, after_word, uncommented};
 
 fn is_blank(byte: u8) -> bool
@@ -47,4 +48,11 @@ pub fn before_comment(line: &[u8]) -> &[u8]
     ensures { result.now ≡ uncommented line.now }
 {
     &line[..text_len(line)]
+}
+
+// Whether a word is the one given.
+pub fn says(word: &[u8], text: &[u8]) -> bool
+    ensures { result ≡ bytes_eq word.now text.now }
+{
+    word == text
 }
