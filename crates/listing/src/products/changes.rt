@@ -92,12 +92,9 @@ impl Products {
     pub fn lift(&mut self)
         ensures { contents self.new ≡ without_halts self.old }
     {
-        // by a copy, since a field beside ghost fields is not lent
-        let mut rows = self.rows;
-        for product in &mut rows[..self.count] {
-            product.halted = false;
+        for n in 0..self.count {
+            self.rows[n].halted = false;
         }
-        self.rows = rows;
     }
 
     // A settlement price for each product, in the order of their numbers, becomes its reference price.
