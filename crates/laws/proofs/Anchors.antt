@@ -24,6 +24,7 @@ use Rattle.laws.specs.Arriving.{InForce, Anchor, best, none_waits, Sweeps, Furth
 use Rattle.laws.specs.Book.{row_at, waits, Within}
 use Rattle.laws.specs.Words.{Each}
 use Rattle.laws.proofs.Passing.{unless_passed, price_passed}
+use Rattle.laws.proofs.Priced.{AboveZero}
 use Rattle.laws.proofs.Queues.{line, Stood, stood, each_in, Ranked, ranked, first_of, first_within}
 use Rattle.laws.proofs.Sums.{each_weaker}
 use Rattle.laws.proofs.Tables.{waits_proper}
@@ -121,12 +122,12 @@ own_price w o (Some price) l = refl
 
 -- the tradeable range
 
-pub ticks_in_force_are : (p : Product) → InForce p (ticks_in_force p)
-ticks_in_force_are p = go p.frenetic refl
+pub ticks_in_force_are : (p : Product) → AboveZero p.frenetic → InForce p (ticks_in_force p)
+ticks_in_force_are p set = go p.frenetic refl
   where
     go : (frenetic : Option ℕ) → p.frenetic ≡ frenetic → InForce p (unwrap_or frenetic p.listed.daily)
     go None e = inl (e, refl)
-    go (Some ticks) e = inr e
+    go (Some ticks) e = inr (set ticks e, e)
 
 pub in_range : (w : World) (n price : ℕ) → (product_of w n).reference ≤ 1000000 →
     tradeable (range_in w n).low.ticks (range_in w n).high.ticks price ≡ true →

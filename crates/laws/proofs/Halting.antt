@@ -40,7 +40,7 @@ use Rattle.laws.proofs.Landing.{entry_lands, amend_lands}
 use Rattle.laws.proofs.Made.{open_from, amends_as}
 use Rattle.laws.proofs.Numbers.{tidy, numbered, alone_found, found_rests}
 use Rattle.laws.proofs.Passing.{EntryPassed, entry_passed, AmendmentPassed, amendment_passed}
-use Rattle.laws.proofs.Priced.{priced}
+use Rattle.laws.proofs.Priced.{Sound, sound}
 use Rattle.laws.proofs.Uncross.{option_there, is_open_since, halt_kept}
 
 -- what lies outside the range
@@ -63,7 +63,7 @@ outside_range w n price l m e =
 abbrev who_of : Arrival → Arriver
 who_of a = arriver a.product a.side a.limit a.number a.participant
 
-module _ (w : World) (a : Arrival) (i : ℕ) (table : List OrderRow) (room : ℕ) (lands : Lands w a i table) (low : (product_of w a.product).reference ≤ 1000000)
+module _ (w : World) (a : Arrival) (i : ℕ) (table : List OrderRow) (room : ℕ) (lands : Lands w a i table) (low : Sound (product_of w a.product))
     (c : Call) (n : Result Answer Refusal) (arr : Arrives w c n (who_of a)) (is_open : Open w a.product) (meets : Meets w (who_of a) c) where
   abbrev e : Event
   e = event w a.time c n (arrived w a i table room)
@@ -83,8 +83,8 @@ module _ (w : World) (a : Arrival) (i : ℕ) (table : List OrderRow) (room : ℕ
         reached = g.reached;
         first = g.first;
         daily = ticks_in_force (product_of w a.product);
-        in_force = ticks_in_force_are (product_of w a.product);
-        outside = outside_range w a.product r.price low (waits_price (opposite a.side) a.product r g.waiting) g.outside;
+        in_force = ticks_in_force_are (product_of w a.product) low.widened;
+        outside = outside_range w a.product r.price low.reference (waits_price (opposite a.side) a.product r g.waiting) g.outside;
         halted = h;
       }
 
@@ -131,12 +131,12 @@ module _ (w : World) (a : Arrival) (i : ℕ) (table : List OrderRow) (room : ℕ
   arrived_rightly = rightly (product_of w a.product).listed.kind (met w a).halted refl refl
 
 entry_rightly : (w : World) (time : ℕ) (o : NewOrder) (place room : ℕ) → EntryPassed w time o → Chosen w time (enter o) place room →
-    Tidy w.products.count w.table → (product_of w o.product).reference ≤ 1000000 →
+    Tidy w.products.count w.table → Sound (product_of w o.product) →
     HaltedRightly (event w time (enter o) (Ok (answer w time (enter o))) (after w time (enter o) place room))
 entry_rightly w time o place room p t td low =
     let a : Arrival = entry w time o in
     arrived_rightly w a place (filled (met w a).fills w.table) room (entry_lands w time o place td p.listed t.0) low (enter o) (Ok (answer w time (enter o)))
-    (enters o (receipt_for w a) a.limit (own_price w o o.limit low)) (open_from w o.product p.session p.not_halted) tt
+    (enters o (receipt_for w a) a.limit (own_price w o o.limit low.reference)) (open_from w o.product p.session p.not_halted) tt
 
 -- an order whose price changes rested at another
 other_price : (w : World) (m : Amendment) → Found w m.participant m.order → Numbered w.state.stamp w.table → new_price w m ≡ true → NewPrice w m
@@ -151,7 +151,7 @@ other_price w m f h t i r n e =
     ]
 
 amend_rightly : (w : World) (time : ℕ) (m : Amendment) (room : ℕ) → AmendmentPassed w time m → Numbered w.state.stamp w.table →
-    ((n : ℕ) → n < w.products.count → (product_of w n).reference ≤ 1000000) →
+    ((n : ℕ) → n < w.products.count → Sound (product_of w n)) →
     HaltedRightly (event w time (amend m) (Ok (received (amended_receipt w m time))) (after_amendment w m time room))
 unfolding after_amendment amended_receipt
 amend_rightly w time m room p h low = go (arrives_again w m) refl
@@ -206,7 +206,7 @@ lifted_halts (suc n) (r ∷ rows) zero h = absurd (false≢true h)
 lifted_halts (suc n) (r ∷ rows) (suc k) h = lifted_halts n rows k h
 
 after_rightly : (w : World) (time : ℕ) (c : Call) (place room : ℕ) → fault w time c ≡ None → Chosen w time c place room →
-    Tidy w.products.count w.table → Numbered w.state.stamp w.table → ((n : ℕ) → n < w.products.count → (product_of w n).reference ≤ 1000000) →
+    Tidy w.products.count w.table → Numbered w.state.stamp w.table → ((n : ℕ) → n < w.products.count → Sound (product_of w n)) →
     HaltedRightly (event w time c (Ok (answer w time c)) (after w time c place room))
 after_rightly w time (roll prices) place room e t td h low = (λ z. z, λ k z. sym (settled_halts prices w.products.rows k) ∙ z)
 after_rightly w time open_session place room e t td h low = (λ z. z, λ k z. z)
@@ -227,7 +227,7 @@ after_rightly w time (determine n verdict) place room e t td h low = (λ z. z, �
 step_rightly : {h : History} {w : World} {time : ℕ} {c : Call} {a : Result Answer Refusal} {w' : World} → Reached h w → Step w time c a w' → HaltedRightly (event w time c a w')
 step_rightly before (refuses r e) = (λ z. z, λ k z. z)
 step_rightly {w = w} {time = time} {c = c} before (accepts place room e t) =
-    after_rightly w time c place room e t (tidy before) (numbered before) (priced before)
+    after_rightly w time c place room e t (tidy before) (numbered before) (sound before)
 
 pub halted_rightly : {h : History} {w : World} → Reached h w → Each HaltedRightly h
 halted_rightly (made w f) = tt

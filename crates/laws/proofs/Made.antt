@@ -38,7 +38,7 @@ use Rattle.laws.proofs.Found.{Found, found}
 use Rattle.laws.proofs.Landing.{entry_lands, amend_lands}
 use Rattle.laws.proofs.Numbers.{tidy}
 use Rattle.laws.proofs.Passing.{EntryPassed, entry_passed, AmendmentPassed, amendment_passed}
-use Rattle.laws.proofs.Priced.{priced}
+use Rattle.laws.proofs.Priced.{Sound, sound}
 use Rattle.laws.proofs.Sums.{each_weaker, each_both, each_map}
 use Rattle.laws.proofs.Tapes.{plain, Grows, step_grows, arrived_tape}
 
@@ -68,7 +68,7 @@ not_below Sell limit price own w e = w
 
 well : (w : World) (a : Arrival) (c : Call) (n : Result Answer Refusal) (i : ℕ) (table : List OrderRow) (room : ℕ) → Lands w a i table →
     Arrives w c n (arriver a.product a.side a.limit a.number a.participant) → Open w a.product →
-    (product_of w a.product).reference ≤ 1000000 → Within a.side (sweep_in w a.side a.product).ticks a.limit →
+    Sound (product_of w a.product) → Within a.side (sweep_in w a.side a.product).ticks a.limit →
     Each (λ t. WellMade (event w a.time c n (arrived w a i table room)) (plain t)) (map (traded w a) (met w a).fills)
 well w a c n i table room lands arr is_open low sweeps =
     each_map (λ f. Fits w a f × InTurn w a (arrived w a i table room).table f) (λ t. WellMade (event w a.time c n (arrived w a i table room)) (plain t))
@@ -79,7 +79,7 @@ well w a c n i table room lands arr is_open low sweeps =
     let k : ℕ = f.slot.index in
     let same : row_at w.table k ≡ f.slot.row = h.same in
     let price : (row_at w.table k).price ≡ f.slot.row.price = ap (λ r. r.price) same in
-    let range = in_range w a.product f.slot.row.price low h.inside in
+    let range = in_range w a.product f.slot.row.price low.reference h.inside in
     record {
       who = arriver a.product s a.limit a.number a.participant;
       arrives = arr;
@@ -94,11 +94,11 @@ well w a c n i table room lands arr is_open low sweeps =
       not_above_the_buy = not_above s a.limit f.slot.row.price (row_at w.table k).price h.reached price;
       not_below_the_sell = not_below s a.limit f.slot.row.price (row_at w.table k).price h.reached price;
       daily = ticks_in_force (product_of w a.product);
-      in_force = ticks_in_force_are (product_of w a.product);
+      in_force = ticks_in_force_are (product_of w a.product) low.widened;
       not_below_the_range = range.0;
       not_above_the_range = range.1;
       swept_from = (anchor_of w s a.product).ticks;
-      anchor = the_anchor w s a.product low;
+      anchor = the_anchor w s a.product low.reference;
       within_the_sweep = sweeps_from w s a.product f.slot.row.price (within_trans s (sweep_in w s a.product).ticks a.limit f.slot.row.price sweeps h.reached);
       in_turn = λ j t b. g.1 j t (subst (λ r. Before (opposite s) (row_at w.table j) r) same b);
       at_the_time = refl;
@@ -151,7 +151,7 @@ some e new is h k p =
 -- an entry
 
 entry_made : (w : World) (time : ℕ) (o : NewOrder) (place room : ℕ) → EntryPassed w time o → Chosen w time (enter o) place room →
-    Tidy w.products.count w.table → (product_of w o.product).reference ≤ 1000000 → (k : ℕ) →
+    Tidy w.products.count w.table → Sound (product_of w o.product) → (k : ℕ) →
     Made k (after w time (enter o) place room).tape (event w time (enter o) (Ok (answer w time (enter o))) (after w time (enter o) place room))
 entry_made w time o place room p t td low k =
     let a : Arrival = entry w time o in
@@ -161,7 +161,7 @@ entry_made w time o place room p t td low k =
     (arrived_tape w a place table room)
     (well w a (enter o) (Ok (answer w time (enter o))) place table room
     (entry_lands w time o place td p.listed t.0)
-    (enters o (receipt_for w a) a.limit (own_price w o o.limit low))
+    (enters o (receipt_for w a) a.limit (own_price w o o.limit low.reference))
     (open_from w o.product p.session p.not_halted)
     low l) k
 
@@ -198,7 +198,7 @@ amends_as w m r f =
     (amends m r i s some number owner code)))
 
 amend_made : (w : World) (time : ℕ) (m : Amendment) (room : ℕ) → AmendmentPassed w time m →
-    ((n : ℕ) → n < w.products.count → (product_of w n).reference ≤ 1000000) → (k : ℕ) →
+    ((n : ℕ) → n < w.products.count → Sound (product_of w n)) → (k : ℕ) →
     Made k (after_amendment w m time room).tape (event w time (amend m) (Ok (received (amended_receipt w m time))) (after_amendment w m time room))
 unfolding after_amendment
 amend_made w time m room p low k =
@@ -230,7 +230,7 @@ amend_made w time m room p low k =
 -- any event
 
 after_made : (w : World) (time : ℕ) (c : Call) (place room : ℕ) → fault w time c ≡ None → Chosen w time c place room →
-    Tidy w.products.count w.table → ((n : ℕ) → n < w.products.count → (product_of w n).reference ≤ 1000000) → (k : ℕ) →
+    Tidy w.products.count w.table → ((n : ℕ) → n < w.products.count → Sound (product_of w n)) → (k : ℕ) →
     Made k (after w time c place room).tape (event w time c (Ok (answer w time c)) (after w time c place room))
 after_made w time (roll prices) place room e t td low k = none _ refl k
 after_made w time open_session place room e t td low k = none _ refl k
@@ -250,7 +250,7 @@ after_made w time (determine n verdict) place room e t td low k =
     (length-set w.tape (n - 1) (marked (mark_by verdict) (record_at w.tape n))) k
 
 made_now : (w : World) (time : ℕ) (c : Call) {a : Result Answer Refusal} {w' : World} → Step w time c a w' →
-    Tidy w.products.count w.table → ((n : ℕ) → n < w.products.count → (product_of w n).reference ≤ 1000000) → (k : ℕ) →
+    Tidy w.products.count w.table → ((n : ℕ) → n < w.products.count → Sound (product_of w n)) → (k : ℕ) →
     Made k w'.tape (event w time c a w')
 made_now w time c (refuses r e) td low k = none (event w time c (Err r) w) refl k
 made_now w time c (accepts place room e t) td low k = after_made w time c place room e t td low k
@@ -258,7 +258,7 @@ made_now w time c (accepts place room e t) td low k = after_made w time c place 
 all_made : {h : History} {w : World} → Reached h w → (k : ℕ) → Each (Made k w.tape) h
 all_made (made w f) k = tt
 all_made (then_called {h = h} {w = w} {w' = w'} {time = time} {c = c} before holds step) k =
-    (made_now w time c step (tidy before) (priced before) k, made_kept k w.tape w'.tape (step_grows step) h (all_made before k))
+    (made_now w time c step (tidy before) (sound before) k, made_kept k w.tape w'.tape (step_grows step) h (all_made before k))
 
 -- whatever its mark
 remarked : (e : Event) (t : TradeRow) → WellMade e (plain t) → WellMade e t

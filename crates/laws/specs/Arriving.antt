@@ -21,9 +21,9 @@ pub record Open (w : World) (n : ℕ) : Type 0 where
   pub market : w.state.halted ≡ false
   pub product : (product_of w n).halted ≡ false
 
--- the daily ticks in force: the frenetic ones while they are set, else those listed
+-- the daily ticks in force: the frenetic ones while they are set, which are above 0, else those listed
 abbrev pub InForce : Product → ℕ → Type 0
-InForce p ticks = ((p.frenetic ≡ None) × (ticks ≡ p.listed.daily)) ⊎ (p.frenetic ≡ Some ticks)
+InForce p ticks = ((p.frenetic ≡ None) × (ticks ≡ p.listed.daily)) ⊎ ((0 < ticks) × (p.frenetic ≡ Some ticks))
 
 -- the price that a sweep is counted from: the best that waits on the other side, else the reference price
 pub data Anchor (w : World) (side : Side) (n : ℕ) : ℕ → Type 0 where

@@ -1,6 +1,6 @@
 // The first order of a queue, and the next one behind another.
 ghost use Rattle.std.specs.Prelude.{◌≡◌, ◌<◌, min, ◌&&◌, length, IfSome, ◌==◌};
-ghost use Rattle.std.specs.Option.{option_map};
+ghost use Rattle.std.specs.Option.{option_map, option_or};
 ghost use Rattle.orders.specs.Queue.{before, past, wanted, offer, behind, head, queue, slot, slot_of, counted, most_places};
 ghost use Rattle.orders.specs.Rows.{side_code};
 
@@ -27,25 +27,20 @@ fn fits<S: BookSide>(e: Entry, product: u32, after: Option<Entry>) -> bool
     is_behind::<S>(after, e) && e.order.side == S::side() && e.order.product == product
 }
 
-// The better of what stands at a place and the best so far.
-fn offered<S: BookSide>(
+// What stands at a place, where it is better than the best so far.
+fn better<S: BookSide>(
     row: OrderRow,
     index: usize,
     product: u32,
     after: Option<Entry>,
     best: Option<Entry>,
 ) -> Option<Entry>
-    ensures { option_map slot_of result ≡ offer (before S.BookSide.first) (wanted S.BookSide.code S.BookSide.first product (option_map slot_of after)) (slot index row) (option_map slot_of best) }
+    ensures { option_map slot_of (option_or result best) ≡ offer (before S.BookSide.first) (wanted S.BookSide.code S.BookSide.first product (option_map slot_of after)) (slot index row) (option_map slot_of best) }
 {
-    let Ok(order) = Order::try_from(row) else {
-        return best;
-    };
+    let order = Order::try_from(row).ok()?;
     let e = Entry { index, order };
-    if fits::<S>(e, product, after) && best.is_none_or(|other| ahead::<S>(e, other)) {
-        Some(e)
-    } else {
-        best
-    }
+    let is_better = fits::<S>(e, product, after) && best.is_none_or(|other| ahead::<S>(e, other));
+    is_better.then_some(e)
 }
 
 // The places of a table that count.
@@ -64,7 +59,10 @@ pub fn seek<S: BookSide>(table: &[OrderRow], product: u32, after: Option<Entry>)
 {
     let mut found: Option<Entry> = None;
     for (index, row) in counted(table).iter().enumerate() {
-        found = offered::<S>(*row, index, product, after, found);
+        // written only where it changes: the best so far is large to move at every place
+        if let Some(e) = better::<S>(*row, index, product, after, found) {
+            found = Some(e);
+        }
     }
     found
 }
