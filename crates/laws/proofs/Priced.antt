@@ -38,7 +38,7 @@ not_set : AboveZero None
 not_set ticks e = absurd (none-some ticks e)
 
 set_above : (b : Bool) (n : ℕ) → (b ≡ false → 0 < n) → AboveZero (cond b None (Some n))
-set_above true n above = not_set
+set_above true n above ticks e = not_set ticks e
 set_above false n above ticks e = subst (λ k. 0 < k) (ap (λ o. unwrap_or o 0) e) (above refl)
 
 frenetic_set : (ticks : ℕ) → AboveZero (frenetic_of ticks)
