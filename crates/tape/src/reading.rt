@@ -29,5 +29,5 @@ pub(crate) fn known<T: Tape>(tape: &T, n: u32) -> Trade
     requires { on_tape (T.Tape.records tape.now) n ≡ true }
     ensures { Found (T.Tape.records tape.now) n result }
 {
-    trade_at(tape, n).unwrap()
+    tape.read(n).unwrap()
 }
