@@ -7,7 +7,8 @@ ghost use Rattle.reading.specs.Words.{blank, solid, no_comment, first_word, afte
 fn is_blank(byte: u8) -> bool
     ensures { result ≡ blank byte }
 {
-    matches!(byte, b' ' | b'\t' | b'\r' | b'\n')
+    // by `|`, which becomes one test of the byte; a match becomes a branch for each of the four
+    (byte == b' ') | (byte == b'\t') | (byte == b'\r') | (byte == b'\n')
 }
 
 // How many bytes at the front are blank.
