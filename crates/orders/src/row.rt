@@ -54,11 +54,17 @@ impl OrderRow {
     pub(crate) fn duration(self) -> Option<Duration>
         ensures { result ≡ duration_of self.duration self.date }
     {
-        match (self.duration, self.date) {
-            (1, 0) => Some(Duration::Session),
-            (2, 0) => Some(Duration::Day),
-            (3, date) => Some(Duration::Until(date)),
-            (4, 0) => Some(Duration::UntilCancelled),
+        // dates apart, so that a search of mixed orders does not jump by a table at each place
+        if self.duration == 3 {
+            return Some(Duration::Until(self.date));
+        }
+        if self.date != 0 {
+            return None;
+        }
+        match self.duration {
+            1 => Some(Duration::Session),
+            2 => Some(Duration::Day),
+            4 => Some(Duration::UntilCancelled),
             _ => None,
         }
     }

@@ -11,28 +11,46 @@ fn is_blank(byte: u8) -> bool
     (byte == b' ') | (byte == b'\t') | (byte == b'\r') | (byte == b'\n')
 }
 
-// How many bytes at the front are blank.
+// How many bytes at the front are blank. By a loop, here and below: counting what `take_while` gives takes longer.
+#[tactic(auto, using(crate::proofs::Fronts::front_goes, crate::proofs::Fronts::front_stops, crate::proofs::Fronts::front_ends))]
 fn blank_len(text: &[u8]) -> usize
     ensures value { result ≡ prefix_len blank text.now }
     ensures within { result ≤ length text.now }
 {
-    text.iter().take_while(|b| is_blank(**b)).count()
+    for (i, byte) in text.iter().enumerate() {
+        if !is_blank(*byte) {
+            return i;
+        }
+    }
+    text.len()
 }
 
 // How many bytes at the front are not blank.
+#[tactic(auto, using(crate::proofs::Fronts::front_goes, crate::proofs::Fronts::front_stops, crate::proofs::Fronts::front_ends))]
 fn word_len(text: &[u8]) -> usize
     ensures value { result ≡ prefix_len solid text.now }
     ensures within { result ≤ length text.now }
 {
-    text.iter().take_while(|b| !is_blank(**b)).count()
+    for (i, byte) in text.iter().enumerate() {
+        if is_blank(*byte) {
+            return i;
+        }
+    }
+    text.len()
 }
 
 // How many bytes stand before a comment, or on the whole line.
+#[tactic(auto, using(crate::proofs::Fronts::front_goes, crate::proofs::Fronts::front_stops, crate::proofs::Fronts::front_ends))]
 fn text_len(line: &[u8]) -> usize
     ensures value { result ≡ prefix_len no_comment line.now }
     ensures within { result ≤ length line.now }
 {
-    line.iter().take_while(|b| **b != b'#').count()
+    for (i, byte) in line.iter().enumerate() {
+        if *byte == b'#' {
+            return i;
+        }
+    }
+    line.len()
 }
 
 // The first word, and what stands after it; where there is no word, two empty texts.
